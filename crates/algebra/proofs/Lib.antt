@@ -1,0 +1,2 @@
+-- Laws of commutative rings.
+pub mod Laws

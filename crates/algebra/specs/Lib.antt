@@ -1,0 +1,2 @@
+-- Commutative rings and fields.
+pub mod Ring

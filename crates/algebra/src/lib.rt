@@ -1,0 +1,1 @@
+// Theory only: commutative rings, fields and the ring solver are in specs/ and proofs/.
