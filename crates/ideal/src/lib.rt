@@ -1,0 +1,1 @@
+// Theory only: ideals of a ring with pole numbers are in specs/ and proofs/.
