@@ -1,0 +1,4 @@
+-- The theory of reduced ideals over a ring with pole numbers.
+pub mod Rules
+pub mod Gaps
+pub mod Degree
