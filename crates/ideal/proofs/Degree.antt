@@ -105,13 +105,13 @@ module _ {R : CommRing} (P : Poles R) where
   pub pole-add : {n : ℕ} {g h : Car} → HasPole P g n → Below n h → HasPole P (g ⊕ h) n
   pole-add {n} {g} {h} p b = record {
     upper = below-add (p .upper) (below-mono (omega arith) b);
-    exact = λ c. p .exact (subst (Below n) (simp ring) (below-add c (below-neg b)))
+    exact = λ c. p .exact (subst (Below n) (simp ring) (below-add c (below-neg b)));
   }
 
   pub pole-mul : {m n : ℕ} {g h : Car} → HasPole P g m → HasPole P h n → HasPole P (g ⊗ h) (m + n)
   pole-mul p q = record {
     upper = below-mul (p .upper) (q .upper);
-    exact = λ c. ⊎-elim (p .exact) (q .exact) (below-factor (p .upper) (q .upper) c)
+    exact = λ c. ⊎-elim (p .exact) (q .exact) (below-factor (p .upper) (q .upper) c);
   }
 
   pub constant-pole : {a : Car} → Below 1 a → ¬ (a ≡ zero) → HasPole P a 0
@@ -123,7 +123,7 @@ module _ {R : CommRing} (P : Poles R) where
   pub pole-neg : {n : ℕ} {g : Car} → HasPole P g n → HasPole P (⊖ g) n
   pole-neg {n} {g} p = record {
     upper = below-neg (p .upper);
-    exact = λ c. p .exact (subst (Below n) (simp ring) (below-neg c))
+    exact = λ c. p .exact (subst (Below n) (simp ring) (below-neg c));
   }
 
   pub mul-nonzero : {a b : Car} → ¬ (a ≡ zero) → ¬ (b ≡ zero) → ¬ (a ⊗ b ≡ zero)
@@ -162,5 +162,5 @@ module _ {R : CommRing} (P : Poles R) where
         ⊖ a,
         below-neg c,
         λ e. nonzero a b (sym (rules.neg-neg R a) ∙ ap (λ t. ⊖ t) e ∙ rules.neg-zero R),
-        record { pole = pole-number p; rest = subst (Below n) (simp ring) (below-neg b) }
+        record { pole = pole-number p; rest = subst (Below n) (simp ring) (below-neg b) },
       )

@@ -2,3 +2,6 @@
 pub mod Rules
 pub mod Gaps
 pub mod Degree
+pub mod Leads
+pub mod Kernel
+pub mod Colon

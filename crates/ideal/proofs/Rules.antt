@@ -60,6 +60,12 @@ module _ (R : CommRing) where
   pub neg-sum : (a b : Car) → ⊖ (a ⊕ b) ≡ ⊖ a ⊕ ⊖ b
   neg-sum a b = sym (neg-unique (a ⊕ b) (⊖ a ⊕ ⊖ b) (add-assoc a b (⊖ a ⊕ ⊖ b) ∙ ap (λ t. a ⊕ t) (add-left-comm b (⊖ a) (⊖ b)) ∙ add-neg-left a (b ⊕ ⊖ b) ∙ add-neg b))
 
+  pub sub-zero : (a b : Car) → a ⊕ ⊖ b ≡ zero → a ≡ b
+  sub-zero a b e = sym (neg-neg a) ∙ ap (λ t. ⊖ t) (sym (neg-unique a (⊖ b) e)) ∙ neg-neg b
+
+  pub move : {a b c : Car} → a ⊕ b ≡ c → a ≡ c ⊕ ⊖ b
+  move {a} {b} {c} e = sym (add-zero a) ∙ ap (λ t. a ⊕ t) (sym (add-neg b)) ∙ sym (add-assoc a b (⊖ b)) ∙ ap (λ t. t ⊕ ⊖ b) e
+
   pub add-neg-far : (a b : Car) → a ⊕ (b ⊕ ⊖ a) ≡ b
   add-neg-far a b = add-left-comm a b (⊖ a) ∙ ap (λ t. b ⊕ t) (add-neg a) ∙ add-zero b
 
@@ -84,20 +90,30 @@ module _ (R : CommRing) where
   pub neg-add-fourth : (a b c d : Car) → ⊖ a ⊕ (b ⊕ (c ⊕ (a ⊕ d))) ≡ b ⊕ (c ⊕ d)
   neg-add-fourth a b c d = ap (λ t. ⊖ a ⊕ t) (sym (add-assoc b c (a ⊕ d))) ∙ neg-add-farther a (b ⊕ c) d ∙ add-assoc b c d
 
+  pub regroup : (a b f q : Car) → a ⊗ b ≡ one → (a ⊗ f) ⊗ (b ⊗ q) ≡ f ⊗ q
+  regroup a b f q e = mul-assoc a f (b ⊗ q) ∙ ap (λ t. a ⊗ t) (mul-left-comm f b q) ∙ sym (mul-assoc a b (f ⊗ q)) ∙ ap (λ t. t ⊗ (f ⊗ q)) e ∙ one-mul (f ⊗ q)
+
   pub mul-one′ : (a : Car) → a ⊗ one ≡ a
   mul-one′ a = mul-one a
+
   pub add-zero′ : (a : Car) → a ⊕ zero ≡ a
   add-zero′ a = add-zero a
+
   pub add-neg′ : (a : Car) → a ⊕ ⊖ a ≡ zero
   add-neg′ a = add-neg a
+
   pub add-comm′ : (a b : Car) → a ⊕ b ≡ b ⊕ a
   add-comm′ a b = add-comm a b
+
   pub add-assoc′ : (a b c : Car) → (a ⊕ b) ⊕ c ≡ a ⊕ (b ⊕ c)
   add-assoc′ a b c = add-assoc a b c
+
   pub mul-comm′ : (a b : Car) → a ⊗ b ≡ b ⊗ a
   mul-comm′ a b = mul-comm a b
+
   pub mul-assoc′ : (a b c : Car) → (a ⊗ b) ⊗ c ≡ a ⊗ (b ⊗ c)
   mul-assoc′ a b c = mul-assoc a b c
+
   pub mul-add′ : (a b c : Car) → a ⊗ (b ⊕ c) ≡ a ⊗ b ⊕ a ⊗ c
   mul-add′ a b c = mul-add a b c
 
