@@ -16,6 +16,7 @@ use Prim.Native.Nat.{ℕ, suc, _+_, _-_, _≤_, _<_}
 use native.Mathlib.Decide.{ℕ-discrete, decLe}
 use native.Mathlib.Omega.{arith}
 use Rattle.algebra.specs.Ring.{CommRing}
+use Rattle.algebra.proofs.Laws as laws
 use Rattle.ideal.specs.Ideal.{IsIdeal, Multiple, Colon, SameIdeal}
 use Rattle.ideal.specs.Poles.{largest-gap, IsGap, IsPole, Poles, HasPole}
 use Rattle.ideal.proofs.Gaps.{Split, above, across, split, gap-dec, pole-large}
@@ -33,8 +34,8 @@ module _ (R : CommRing) where
   pub colon-ideal : (f : Car) (I : Car → Type 0) → IsIdeal R (Colon R f I)
   colon-ideal f I = record {
     nil = λ h m. (zero, simp ring);
-    sum = λ {a} {b} ka kb h m. (ka h m .0 ⊕ kb h m .0, rules.add-mul R a b h ∙ rw (ka h m .1, kb h m .1) (simp ring));
-    times = λ r {a} ka h m. (r ⊗ ka h m .0, rules.mul-assoc′ R r a h ∙ rw (ka h m .1) (simp ring));
+    sum = λ {a} {b} ka kb h m. (ka h m .0 ⊕ kb h m .0, laws.add-mul R a b h ∙ rw (ka h m .1, kb h m .1) (simp ring));
+    times = λ r {a} ka h m. (r ⊗ ka h m .0, laws.times-assoc R r a h ∙ rw (ka h m .1) (simp ring));
   }
 
   pub colon-self : (f : Car) (I : Car → Type 0) → Colon R f I f
@@ -66,7 +67,7 @@ module _ {R : CommRing} (P : Poles R) {f : R .Car} {d : ℕ} (pf : HasPole P f d
       there (q, e) = (a ⊗ q, e ∙ simp ring)
 
       back : {h : Car} → (b : Car) × Below 1 b × (a ⊗ b ≡ one) → Multiple R f h → Multiple R (a ⊗ f) h
-      back (b, _, e) (q, e′) = (b ⊗ q, e′ ∙ sym (rules.regroup R a b f q e))
+      back (b, _, e) (q, e′) = (b ⊗ q, e′ ∙ sym (rules.unscale R a b f q e))
 
   module _ {I : Car → Type 0} (ideal : IsIdeal R I) where
     pub ker-colon : {g : Car} → ((u : Car) → I u → Ker P f d (g ⊗ u)) → Colon R f I g
@@ -163,7 +164,7 @@ module _ {R : CommRing} (P : Poles R) {f : R .Car} {d : ℕ} (pf : HasPole P f d
       colon-colon g = (lowering P (ideal-space P ideal) (ideal-space P (colon-ideal R f (Colon R f I))) inside leads g, inside g)
         where
           inside : (g : Car) → I g → Colon R f (Colon R f I) g
-          inside g m h k = (k g m .0, rules.mul-comm′ R g h ∙ k g m .1)
+          inside g m h k = (k g m .0, laws.times-comm R g h ∙ k g m .1)
 
           at : (n : ℕ) → Lead P (Colon R f (Colon R f I)) n → Dec (Lead P I n) → Split d n → Lead P I n
           at n l (yes have) b = have

@@ -19,6 +19,7 @@ use native.Mathlib.Decide.{ℕ-discrete, decLe}
 use native.Mathlib.Numerals.{unary-clauses}
 use native.Mathlib.Omega.{arith}
 use Rattle.algebra.specs.Ring.{CommRing}
+use Rattle.algebra.proofs.Laws as laws
 use Rattle.ideal.specs.Poles.{largest-gap, IsGap, IsPole, Poles, HasPole, Monic}
 use Rattle.ideal.proofs.Gaps.{pole-zero}
 use Rattle.ideal.proofs.Rules as rules
@@ -41,10 +42,10 @@ module _ {R : CommRing} (P : Poles R) where
   neg-one-constant = go (lower (one-pole .upper) (one-pole .upper) (one-pole .exact))
     where
       go : (a : Car) × Below 1 a × Below 0 (one ⊕ a ⊗ one) → Below 1 (⊖ one)
-      go (a, c, b) = subst (Below 1) (rules.neg-unique R one a (simp ring (simp ring at (below-none b)))) c
+      go (a, c, b) = subst (Below 1) (laws.neg-unique R one a (simp ring (simp ring at (below-none b)))) c
 
   below-scale-at : (n : ℕ) {a g : Car} → Below 1 a → Below n g → Below n (a ⊗ g)
-  below-scale-at ℕ.zero {a} {g} c b = rw (below-none b) (rw rules.mul-zero (below-zero 0))
+  below-scale-at ℕ.zero {a} {g} c b = rw (below-none b) (rw laws.mul-zero (below-zero 0))
   below-scale-at (suc n) {a} {g} c b = below-mono (omega arith) (below-mul c b)
 
   pub below-scale : {n : ℕ} {a g : Car} → Below 1 a → Below n g → Below n (a ⊗ g)
@@ -137,13 +138,13 @@ module _ {R : CommRing} (P : Poles R) where
       go (no z) = absurd (mul-nonzero na z e)
 
   pub cancel : {a g h : Car} → ¬ (a ≡ zero) → a ⊗ g ≡ a ⊗ h → g ≡ h
-  cancel {a} {g} {h} na e = rules.add-cancel R (⊖ h) g h (rules.add-comm′ R (⊖ h) g ∙ domain na (simp ring (rw e (simp ring))) ∙ sym (rules.neg-add R h))
+  cancel {a} {g} {h} na e = laws.cancel-left R (⊖ h) g h (laws.plus-comm R (⊖ h) g ∙ domain na (simp ring (rw e (simp ring))) ∙ sym (laws.neg-add R h))
 
   pub constant-inverse : {a : Car} → Below 1 a → ¬ (a ≡ zero) → (b : Car) × Below 1 b × (a ⊗ b ≡ one)
   constant-inverse {a} c nz = go (lower (one-pole .upper) c (constant-pole c nz .exact))
     where
       go : (b : Car) × Below 1 b × Below 0 (one ⊕ b ⊗ a) → (b : Car) × Below 1 b × (a ⊗ b ≡ one)
-      go (b, k, z) = (⊖ b, below-neg k, simp ring (sym (rules.neg-unique R (a ⊗ b) one (simp ring (simp ring at (below-none z))))))
+      go (b, k, z) = (⊖ b, below-neg k, simp ring (sym (laws.neg-unique R (a ⊗ b) one (simp ring (simp ring at (below-none z))))))
 
   pub lowered : {n : ℕ} {g h : Car} → Below (suc n) g → HasPole P h n → (a : Car) × Below 1 a × Below n (g ⊕ a ⊗ h)
   lowered b p = lower b (p .upper) (p .exact)
@@ -161,6 +162,6 @@ module _ {R : CommRing} (P : Poles R) where
       go (a, c, b) = (
         ⊖ a,
         below-neg c,
-        λ e. nonzero a b (sym (rules.neg-neg R a) ∙ ap (λ t. ⊖ t) e ∙ rules.neg-zero R),
+        λ e. nonzero a b (sym (laws.neg-neg R a) ∙ ap (λ t. ⊖ t) e ∙ laws.neg-zero R),
         record { pole = pole-number p; rest = subst (Below n) (simp ring) (below-neg b) },
       )

@@ -15,6 +15,7 @@ use Prim.Native.Nat.{ℕ, suc, _+_, _-_, _≤_, _<_}
 use native.Mathlib.Decide.{ℕ-discrete, decLe}
 use native.Mathlib.Omega.{arith}
 use Rattle.algebra.specs.Ring.{CommRing}
+use Rattle.algebra.proofs.Laws as laws
 use Rattle.ideal.specs.Ideal.{Multiple}
 use Rattle.ideal.specs.Poles.{largest-gap, IsPole, Poles, HasPole}
 use Rattle.ideal.proofs.Gaps.{Split, above, across, split, pole-apart, pole-large}
@@ -34,7 +35,7 @@ module _ {R : CommRing} (P : Poles R) where
 
   module _ {f : Car} {d : ℕ} (pf : HasPole P f d) where
     pub multiple-pole : {q : Car} {n : ℕ} → HasPole P (f ⊗ q) n → (s : ℕ) × IsPole s × (n ≡ d + s)
-    multiple-pole {q} {n} p = ⊎-elim (λ e. absurd (pole-nonzero P p (rw e (rules.mul-zero R f)))) (λ (s, ps). (s, pole-number P ps, pole-unique P p (pole-mul P pf ps))) (degree P q)
+    multiple-pole {q} {n} p = ⊎-elim (λ e. absurd (pole-nonzero P p (rw e (laws.mul-zero R f)))) (λ (s, ps). (s, pole-number P ps, pole-unique P p (pole-mul P pf ps))) (degree P q)
 
     pub multiple-not : {q : Car} → ¬ HasPole P (f ⊗ q) (d + largest-gap)
     multiple-not p = go (multiple-pole p)
@@ -87,7 +88,7 @@ module _ {R : CommRing} (P : Poles R) where
     ker-lower pw h = ker-lower-at (below-some h .0) pw h (below-some h .1)
 
     nondegenerate-at : (n : ℕ) (h : Car) → Below n h → ((r : Car) → Ker f d (h ⊗ r)) → Multiple R f h
-    nondegenerate-at ℕ.zero h b k = (zero, below-none b ∙ sym (rules.mul-zero R f))
+    nondegenerate-at ℕ.zero h b k = (zero, below-none b ∙ sym (laws.mul-zero R f))
     nondegenerate-at (suc n) h b k = ⊎-elim (λ c. nondegenerate-at n h c k) (λ p. at (nondegenerate-at n) p (split d n)) (below-step P b)
       where
         go : ((h : Car) → Below n h → ((r : Car) → Ker f d (h ⊗ r)) → Multiple R f h) → (s : ℕ) → (a : Car) × Below 1 a × Below n (h ⊕ a ⊗ (f ⊗ mono s)) → Multiple R f h

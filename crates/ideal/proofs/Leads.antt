@@ -16,6 +16,7 @@ use Prim.Native.Nat.{ℕ, suc, _+_, _≤_, _<_}
 use native.Mathlib.Decide.{ℕ-discrete, decLe}
 use native.Mathlib.Omega.{arith}
 use Rattle.algebra.specs.Ring.{CommRing}
+use Rattle.algebra.proofs.Laws as laws
 use Rattle.ideal.specs.Ideal.{IsIdeal, SameIdeal}
 use Rattle.ideal.specs.Poles.{Poles, HasPole, Monic}
 use Rattle.ideal.specs.Reduced.{Least}
@@ -103,13 +104,13 @@ module _ {R : CommRing} (P : Poles R) where
   least-multiple {J} {f} {g} l s m p = go (lowered P (p .upper) (monic-pole P (l .monic)))
     where
       go : (a : Car) × Below 1 a × Below (l .pole) (g ⊕ a ⊗ f) → (a : Car) × Below 1 a × (g ≡ a ⊗ f)
-      go (a, c, b) = (⊖ a, below-neg P c, rules.neg-unique R (a ⊗ f) g (rules.add-comm′ R (a ⊗ f) g ∙ least-below l (s .sum m (s .scale c (l .member))) b) ∙ simp ring)
+      go (a, c, b) = (⊖ a, below-neg P c, laws.neg-unique R (a ⊗ f) g (laws.plus-comm R (a ⊗ f) g ∙ least-below l (s .sum m (s .scale c (l .member))) b) ∙ simp ring)
 
   pub least-pole : {J : Car → Type 0} {f f′ : Car} (l : Least P J f) (l′ : Least P J f′) → l .pole ≡ l′ .pole
   least-pole {J} {f} {f′} l l′ = omega (arith, l .lowest f′ (l′ .pole) (l′ .member) (monic-pole P (l′ .monic)), l′ .lowest f (l .pole) (l .member) (monic-pole P (l .monic)))
 
   pub least-unique : {J : Car → Type 0} {f f′ : Car} → IsSpace J → Least P J f → Least P J f′ → f ≡ f′
-  least-unique {J} {f} {f′} s l l′ = rules.sub-zero R f f′ (least-below l (s .sum (l .member) (space-neg s (l′ .member))) (subst (Below (l .pole)) (simp ring) (below-add (l .monic .rest) (below-neg P rest′))))
+  least-unique {J} {f} {f′} s l l′ = laws.sub-zero→eq R f f′ (least-below l (s .sum (l .member) (space-neg s (l′ .member))) (subst (Below (l .pole)) (simp ring) (below-add (l .monic .rest) (below-neg P rest′))))
     where
       rest′ : Below (l .pole) (f′ ⊕ ⊖ mono (l .pole))
       rest′ = subst (λ n. Below n (f′ ⊕ ⊖ mono n)) (sym (least-pole l l′)) (l′ .monic .rest)
