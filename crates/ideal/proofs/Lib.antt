@@ -5,3 +5,4 @@ pub mod Degree
 pub mod Leads
 pub mod Kernel
 pub mod Colon
+pub mod Class
