@@ -6,3 +6,4 @@ pub mod Leads
 pub mod Kernel
 pub mod Colon
 pub mod Class
+pub mod Reduced
