@@ -5,6 +5,7 @@
 --   Taken f d I g n    an element of I with pole number n that g takes into the kernel of f
 --   ker-colon          g is in (f : I) if g·u is in the kernel of f for each u in I
 --   ker-leads          … for which one u of each lead is enough
+--   above-taken        f·mono s is in I, and every g takes it into the kernel
 --   colon-lead         a pole number n is a lead of (f : I) if d + 5 − n is no lead of I
 --   colon-based        (f : I) is based if I is
 --   colon-colon        (f : (f : I)) = I
@@ -87,11 +88,16 @@ module _ {R : CommRing} (P : Poles R) {f : R .Car} {d : ℕ} (pf : HasPole P f d
         regroup : (n : ℕ) → Taken P f d I g n → Lead P (λ u. I u × Ker P f d (g ⊗ u)) n
         regroup n (v, iv, pv, k) = (v, (iv, k), pv)
 
-    module _ (base : Based P I) (member : I f) where
-      -- f·mono s is in I, and every g takes it into the kernel.
-      above-taken : {s n : ℕ} (g : Car) → IsPole s → n ≡ d + s → Taken P f d I g n
-      above-taken {s} {n} g ps e = (mono s ⊗ f, ideal .times (mono s) member, pole-at P (omega arith) (pole-mul P (mono-has P ps) pf), subst (Ker P f d) (simp ring) (ker-multiple P pf {q = g ⊗ mono s}))
+    -- f·mono s is in I, and every g takes it into the kernel.
+    pub above-taken : {s n : ℕ} → I f → (g : Car) → IsPole s → n ≡ d + s → Taken P f d I g n
+    above-taken {s} {n} member g ps e = (
+      mono s ⊗ f,
+      ideal .times (mono s) member,
+      pole-at P (omega arith) (pole-mul P (mono-has P ps) pf),
+      subst (Ker P f d) (simp ring) (ker-multiple P pf {q = g ⊗ mono s}),
+    )
 
+    module _ (base : Based P I) (member : I f) where
       -- The triangular system of (f : I), solved for the leads of I below l: g of pole number n, and for each lead an element of I that g takes into the kernel.
       Solved : ℕ → ℕ → Type 0
       Solved n l = (g : Car) × HasPole P g n × ((m : ℕ) → m < l → Lead P I m → Taken P f d I g m)
@@ -125,7 +131,7 @@ module _ {R : CommRing} (P : Poles R) {f : R .Car} {d : ℕ} (pf : HasPole P f d
             at-across {s} ps e v iv pv (no a) (no b) = (g, pg, one-more g old (λ _. (v, iv, pv, ker-below P pf (below-mono (omega arith) (pole-mul P pg pv .upper)))))
 
             at : Split d l → (v : Car) → I v → HasPole P v l → Solved n (suc l)
-            at (above ps e) v iv pv = (g, pg, one-more g old (λ _. above-taken g ps e))
+            at (above ps e) v iv pv = (g, pg, one-more g old (λ _. above-taken member g ps e))
             at (across {s} ps e) v iv pv = at-across ps e v iv pv (decLe (suc s) n) (ℕ-discrete s n)
 
             go : Dec (Lead P I l) → Solved n (suc l)
@@ -143,7 +149,7 @@ module _ {R : CommRing} (P : Poles R) {f : R .Car} {d : ℕ} (pf : HasPole P f d
           where
             at : {g : Car} → ((m : ℕ) → m < suc (d + largest-gap) → Lead P I m → Taken P f d I g m) → (m : ℕ) → Lead P I m → Dec (m < suc (d + largest-gap)) → Taken P f d I g m
             at {g} old m lead (yes b) = old m b lead
-            at {g} old m lead (no b) = above-taken g (pole-large {n = m - d} (omega arith)) (omega arith)
+            at {g} old m lead (no b) = above-taken member g (pole-large {n = m - d} (omega arith)) (omega arith)
 
             go : Solved n (suc (d + largest-gap)) → Lead P (Colon R f I) n
             go (g, pg, old) = (g, ker-leads (λ m lead. at old m lead (decLe (suc m) (suc (d + largest-gap)))), pg)
@@ -168,7 +174,7 @@ module _ {R : CommRing} (P : Poles R) {f : R .Car} {d : ℕ} (pf : HasPole P f d
 
           at : (n : ℕ) → Lead P (Colon R f (Colon R f I)) n → Dec (Lead P I n) → Split d n → Lead P I n
           at n l (yes have) b = have
-          at n l (no none) (above ps e) = absurd (none (regroup (above-taken zero ps e)))
+          at n l (no none) (above ps e) = absurd (none (regroup (above-taken member zero ps e)))
             where
               regroup : Taken P f d I zero n → Lead P I n
               regroup (v, iv, pv, k) = (v, iv, pv)

@@ -7,3 +7,5 @@ pub mod Kernel
 pub mod Colon
 pub mod Class
 pub mod Reduced
+pub mod Product
+pub mod Recognise
