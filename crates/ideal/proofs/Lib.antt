@@ -5,7 +5,10 @@ pub mod Degree
 pub mod Leads
 pub mod Kernel
 pub mod Colon
+pub mod Every
 pub mod Class
 pub mod Reduced
 pub mod Product
 pub mod Recognise
+pub mod Generated
+pub mod Adjoin

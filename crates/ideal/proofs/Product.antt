@@ -4,7 +4,6 @@
 --   product-ideal          I·J is an ideal if I is
 --   product-map            I·J grows with I and J
 --   product-comm, product-assoc, product-unit
---   Every Q xs             Q holds of each element of xs
 --   productof-ideal        the product of a list of ideals is an ideal
 --   productof-append       the product of two lists, one after the other
 --   productof-swap         two neighbours may change places
@@ -19,12 +18,9 @@ use Rattle.algebra.specs.Ring.{CommRing}
 use Rattle.algebra.proofs.Laws as laws
 use Rattle.ideal.specs.Ideal.{IsIdeal, Product, none, more, ProductOf, SameIdeal, Equivalent}
 use Rattle.ideal.specs.Poles.{Poles}
+use Rattle.ideal.proofs.Every.{Every}
 use Rattle.ideal.proofs.Class.{equivalent-refl, equivalent-same, equivalent-sym, equivalent-trans}
 use Rattle.ideal.proofs.Rules.{ring}
-
-abbrev pub Every : {X : Type 0} → (X → Type 0) → List X → Type 0
-Every Q [] = Unit
-Every Q (x ∷ xs) = Q x × Every Q xs
 
 module _ (R : CommRing) where
   open CommRing R using (Car, zero, one, add as _⊕_, mul as _⊗_, neg as ⊖_)
@@ -65,7 +61,7 @@ module _ (R : CommRing) where
   product-comm h = (product-turn, product-turn)
 
   -- The elements that k takes into an ideal are an ideal.
-  taken-ideal : {T : Car → Type 0} (k : Car) → IsIdeal R T → IsIdeal R (λ x. T (x ⊗ k))
+  pub taken-ideal : {T : Car → Type 0} (k : Car) → IsIdeal R T → IsIdeal R (λ x. T (x ⊗ k))
   taken-ideal {T} k t = record {
     nil = subst T (sym (laws.zero-mul R k)) (t .nil);
     sum = λ {a} {b} x y. subst T (sym (laws.add-mul R a b k)) (t .sum x y);
