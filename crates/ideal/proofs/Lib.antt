@@ -12,3 +12,4 @@ pub mod Product
 pub mod Recognise
 pub mod Generated
 pub mod Adjoin
+pub mod Finite
