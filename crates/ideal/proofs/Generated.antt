@@ -68,11 +68,11 @@ module _ (R : CommRing) where
   products [] hs = []
   products (g ∷ gs) hs = map (λ h. g ⊗ h) hs ++ products gs hs
 
-  products-each : (I J : Car → Type 0) (gs hs : List Car) → Every I gs → Every J hs → Every (Product R I J) (products gs hs)
+  pub products-each : (I J : Car → Type 0) (gs hs : List Car) → Every I gs → Every J hs → Every (Product R I J) (products gs hs)
   products-each I J [] hs _ ns = tt
   products-each I J (g ∷ gs) hs (m, ms) ns = every-append (Product R I J) (map (λ h. g ⊗ h) hs) (products gs hs) (every-image (Product R I J) (λ h. g ⊗ h) hs (every-map (λ h n. product-of R m n) hs ns)) (products-each I J gs hs ms ns)
 
-  products-source : (T : Car → Type 0) (gs hs : List Car) → Every T (products gs hs) → Every (λ g. Every (λ h. T (g ⊗ h)) hs) gs
+  pub products-source : (T : Car → Type 0) (gs hs : List Car) → Every T (products gs hs) → Every (λ g. Every (λ h. T (g ⊗ h)) hs) gs
   products-source T [] hs _ = tt
   products-source T (g ∷ gs) hs ms = (every-source T (λ h. g ⊗ h) hs (every-left T (map (λ h. g ⊗ h) hs) (products gs hs) ms), products-source T gs hs (every-right T (map (λ h. g ⊗ h) hs) (products gs hs) ms))
 

@@ -13,3 +13,4 @@ pub mod Recognise
 pub mod Generated
 pub mod Adjoin
 pub mod Finite
+pub mod Span

@@ -39,12 +39,12 @@ module _ (R : CommRing) where
   product-sum {I} {J} {h = h} (none e) q = subst (Product R I J) (sym (ap (λ t. t ⊕ h) e ∙ laws.zero-add R h)) q
   product-sum {h = h} (more {a} {b} {s} ia jb p e) q = more ia jb (product-sum p q) (ap (λ t. t ⊕ h) e ∙ R .add-assoc (a ⊗ b) s h)
 
-  pub product-times : {I J : Car → Type 0} → IsIdeal R I → (r : Car) {h : Car} → Product R I J h → Product R I J (r ⊗ h)
-  product-times i r (none e) = none (ap (λ t. r ⊗ t) e ∙ laws.mul-zero R r)
-  product-times i r (more {a} {b} {s} ia jb p e) = more (i .times r ia) jb (product-times i r p) (ap (λ t. r ⊗ t) e ∙ R .mul-add r (a ⊗ b) s ∙ ap (λ t. t ⊕ r ⊗ s) (sym (R .mul-assoc r a b)))
+  pub product-times : {I J : Car → Type 0} (r : Car) → ((a : Car) → I a → I (r ⊗ a)) → {h : Car} → Product R I J h → Product R I J (r ⊗ h)
+  product-times r f (none e) = none (ap (λ t. r ⊗ t) e ∙ laws.mul-zero R r)
+  product-times r f (more {a} {b} {s} ia jb p e) = more (f a ia) jb (product-times r f p) (ap (λ t. r ⊗ t) e ∙ R .mul-add r (a ⊗ b) s ∙ ap (λ t. t ⊕ r ⊗ s) (sym (R .mul-assoc r a b)))
 
   pub product-ideal : {I J : Car → Type 0} → IsIdeal R I → IsIdeal R (Product R I J)
-  product-ideal i = record { nil = none refl; sum = product-sum; times = λ r p. product-times i r p }
+  product-ideal i = record { nil = none refl; sum = product-sum; times = λ r p. product-times r (λ a. i .times r) p }
 
   pub product-map : {I I′ J J′ : Car → Type 0} → ((a : Car) → I a → I′ a) → ((b : Car) → J b → J′ b) → {h : Car} → Product R I J h → Product R I′ J′ h
   product-map f g (none e) = none e
