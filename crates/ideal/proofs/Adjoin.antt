@@ -6,14 +6,14 @@
 --   divide             r = f·q + t with t below d + 6
 --   extend-based       Extend I g is based for a based ideal I with a lead
 use mathlib.Core.Path.{_≡_, refl, sym, _∙_, ap, subst}
-use mathlib.Core.Logic.{_⊎_, inl, inr, ⊎-elim, _↔_}
+use mathlib.Core.Logic.{_⊎_, inl, inr, ⊎-elim}
 use Prim.Native.Nat.{ℕ, suc, _+_, _-_, _≤_, _<_}
 use native.Mathlib.Decide.{ℕ-discrete, decLe}
 use native.Mathlib.Omega.{arith}
 use Rattle.algebra.specs.Ring.{CommRing}
 use Rattle.algebra.proofs.Laws as laws
 use Rattle.ideal.specs.Ideal.{IsIdeal, SameIdeal}
-use Rattle.ideal.specs.Poles.{largest-gap, IsPole, Poles, HasPole}
+use Rattle.ideal.specs.Poles.{largest-gap, Poles, HasPole}
 use Rattle.ideal.proofs.Gaps.{pole-large}
 use Rattle.ideal.proofs.Degree.{below-neg, below-scale, below-step, degree, lowered, mono-has, one-pole, pole-add, pole-at, pole-cong, pole-mul, pole-nonzero, pole-number, pole-scale, pole-unique, zero-dec}
 use Rattle.ideal.proofs.Leads.{IsSpace, ideal-space, space-neg, Lead, Based, based-same}

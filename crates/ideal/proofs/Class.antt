@@ -5,7 +5,7 @@
 --   equivalent-least   … and has a least element if the ideal has one
 --   star-class         (f : I) = (f′ : J) for equivalent I and J with the least elements f and f′
 use mathlib.Core.Path.{_≡_, refl, sym, _∙_, ap, subst}
-use mathlib.Core.Logic.{⊎-elim, _↔_, Iff·rfl}
+use mathlib.Core.Logic.{⊎-elim, Iff·rfl}
 use Prim.Native.Nat.{ℕ, _+_, _≤_}
 use native.Mathlib.Omega.{arith}
 use Rattle.algebra.specs.Ring.{CommRing}
@@ -13,18 +13,15 @@ use Rattle.algebra.proofs.Laws as laws
 use Rattle.ideal.specs.Ideal.{IsIdeal, Multiple, Colon, SameIdeal, Equivalent}
 use Rattle.ideal.specs.Poles.{Poles, HasPole, Monic}
 use Rattle.ideal.specs.Reduced.{Least}
-use Rattle.ideal.proofs.Degree.{cancel, degree, monic-pole, monic-multiple, mul-nonzero, one-nonzero, pole-at, pole-cong, pole-mul, pole-nonzero, pole-some, pole-unique}
+use Rattle.ideal.proofs.Degree.{cancel, degree, monic-pole, mul-nonzero, one-nonzero, pole-at, pole-cong, pole-mul, pole-nonzero, pole-some, pole-unique}
 use Rattle.ideal.proofs.Leads.{IsSpace, ideal-space, lead-monic, least-multiple}
-use Rattle.ideal.proofs.Rules as rules
 use Rattle.ideal.proofs.Rules.{ring}
 
 module _ {R : CommRing} (P : Poles R) where
-  open CommRing R using (Car, zero, one, add as _⊕_, mul as _⊗_, neg as ⊖_)
+  open CommRing R using (Car, one, mul as _⊗_)
   open Poles P using (Below)
 
-  infixl 60 _⊕_
   infixl 70 _⊗_
-  infix 80 ⊖_
   pub equivalent-same : {I J : Car → Type 0} → SameIdeal R I J → Equivalent R I J
   equivalent-same e = record {
     a = one;

@@ -11,8 +11,7 @@
 --   colon-colon        (f : (f : I)) = I
 --   colon-constant     (a·f : I) = (f : I) for a nonzero constant a
 --   colon-same         the colon ideals of sets with the same elements are the same
-use mathlib.Core.Path.{_≡_, refl, sym, _∙_, ap, subst}
-use mathlib.Core.Logic.{_⊎_, inl, inr, ⊎-elim, _↔_}
+use mathlib.Core.Path.{_≡_, refl, sym, _∙_, subst}
 use Prim.Native.Nat.{ℕ, suc, _+_, _-_, _≤_, _<_}
 use native.Mathlib.Decide.{ℕ-discrete, decLe}
 use native.Mathlib.Omega.{arith}
@@ -28,7 +27,7 @@ use Rattle.ideal.proofs.Rules as rules
 use Rattle.ideal.proofs.Rules.{ring}
 
 module _ (R : CommRing) where
-  open CommRing R using (Car, zero, one, add as _⊕_, mul as _⊗_, neg as ⊖_)
+  open CommRing R using (Car, zero, add as _⊕_, mul as _⊗_)
 
   infixl 60 _⊕_
   infixl 70 _⊗_
@@ -49,12 +48,11 @@ abbrev pub Taken : {R : CommRing} (P : Poles R) → R .Car → ℕ → (R .Car �
 Taken {R} P f d I g n = (v : R .Car) × I v × HasPole P v n × Ker P f d (R .mul g v)
 
 module _ {R : CommRing} (P : Poles R) {f : R .Car} {d : ℕ} (pf : HasPole P f d) where
-  open CommRing R using (Car, zero, one, add as _⊕_, mul as _⊗_, neg as ⊖_)
-  open Poles P using (Below, mono, below-add, below-mono)
+  open CommRing R using (Car, zero, one, add as _⊕_, mul as _⊗_)
+  open Poles P using (Below, mono, below-mono)
 
   infixl 60 _⊕_
   infixl 70 _⊗_
-  infix 80 ⊖_
   pub colon-not : {I : Car → Type 0} {g u : Car} {n m : ℕ} → Colon R f I g → HasPole P g n → I u → HasPole P u m → ¬ (n + m ≡ d + largest-gap)
   colon-not {I} {g} {u} k pg iu pu e = go (k u iu)
     where

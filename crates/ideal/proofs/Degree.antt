@@ -12,17 +12,15 @@
 --   domain, cancel, mul-nonzero    R is a domain
 --   constant-inverse               a nonzero constant is invertible
 --   monic-pole, monic-multiple     monic elements, and the monic constant multiple of an element
-use mathlib.Core.Path.{_≡_, refl, sym, _∙_, ap, subst}
+use mathlib.Core.Path.{_≡_, sym, _∙_, ap, subst}
 use mathlib.Core.Logic.{_⊎_, inl, inr, ⊎-elim}
 use Prim.Native.Nat.{ℕ, suc, _+_, _≤_, _<_}
-use native.Mathlib.Decide.{ℕ-discrete, decLe}
-use native.Mathlib.Numerals.{unary-clauses}
+use native.Mathlib.Decide.{decLe}
 use native.Mathlib.Omega.{arith}
 use Rattle.algebra.specs.Ring.{CommRing}
 use Rattle.algebra.proofs.Laws as laws
-use Rattle.ideal.specs.Poles.{largest-gap, IsGap, IsPole, Poles, HasPole, Monic}
+use Rattle.ideal.specs.Poles.{IsPole, Poles, HasPole, Monic}
 use Rattle.ideal.proofs.Gaps.{pole-zero}
-use Rattle.ideal.proofs.Rules as rules
 use Rattle.ideal.proofs.Rules.{ring}
 
 module _ {R : CommRing} (P : Poles R) where

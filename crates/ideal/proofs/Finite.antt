@@ -8,34 +8,31 @@
 --   product-based          the product of two such ideals is such an ideal
 --   whole-based            the whole ring is such an ideal
 --   productof-based        the product of a list of such ideals is one
-use mathlib.Core.Path.{_≡_, refl, sym, _∙_, ap, subst}
-use mathlib.Core.Logic.{_⊎_, inl, inr, ⊎-elim, _↔_, Iff·symm, Iff·trans}
+use mathlib.Core.Path.{_≡_, refl, sym, _∙_, subst}
+use mathlib.Core.Logic.{_⊎_, inl, inr, Iff·symm, Iff·trans}
 use mathlib.Core.List.{List, [], _∷_}
 use Prim.Native.Nat.{ℕ, suc, _+_, _-_, _≤_, _<_}
 use native.Mathlib.Decide.{ℕ-discrete, decLe}
 use native.Mathlib.Omega.{arith}
 use Rattle.algebra.specs.Ring.{CommRing}
-use Rattle.algebra.proofs.Laws as laws
 use Rattle.ideal.specs.Ideal.{IsIdeal, Generated, Product, ProductOf, Multiple, SameIdeal}
 use Rattle.ideal.specs.Poles.{largest-gap, IsGap, IsPole, Poles, HasPole}
 use Rattle.ideal.proofs.Gaps.{gap-dec, pole-large}
-use Rattle.ideal.proofs.Degree.{degree, mono-has, one-pole, pole-at, pole-cong, pole-mul, pole-nonzero, pole-number, pole-some}
-use Rattle.ideal.proofs.Every.{Every, every-map}
-use Rattle.ideal.proofs.Leads.{IsSpace, ideal-space, Lead, Based, based-same, lowering}
+use Rattle.ideal.proofs.Degree.{degree, mono-has, one-pole, pole-at, pole-cong, pole-mul, pole-nonzero, pole-number}
+use Rattle.ideal.proofs.Every.{Every}
+use Rattle.ideal.proofs.Leads.{ideal-space, Lead, Based, based-same, lowering}
 use Rattle.ideal.proofs.Kernel.{multiple-pole}
 use Rattle.ideal.proofs.Product.{product-ideal, product-of, product-same}
-use Rattle.ideal.proofs.Generated.{Extend, generated-ideal, generated-first, generated-rest, generated-in, products, generated-product}
+use Rattle.ideal.proofs.Generated.{generated-ideal, generated-first, generated-rest, generated-in, products, generated-product}
 use Rattle.ideal.proofs.Adjoin.{extend-based}
 use Rattle.ideal.proofs.Reduced.{SmallFootprint, ideal-same}
 use Rattle.ideal.proofs.Rules.{ring}
 
 module _ {R : CommRing} (P : Poles R) where
-  open CommRing R using (Car, zero, one, add as _⊕_, mul as _⊗_, neg as ⊖_)
-  open Poles P using (Below, mono)
+  open CommRing R using (Car, zero, one, mul as _⊗_)
+  open Poles P using (mono)
 
-  infixl 60 _⊕_
   infixl 70 _⊗_
-  infix 80 ⊖_
   pub record BasedIdeal (I : Car → Type 0) : Type 0 where
     pub ideal : IsIdeal R I
     pub based : Based P I

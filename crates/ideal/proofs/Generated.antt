@@ -8,7 +8,6 @@
 --   products gs hs         the products of one element from each list
 --   generated-product      they generate the product of the ideals of gs and hs
 use mathlib.Core.Path.{_≡_, refl, sym, _∙_, ap, subst}
-use mathlib.Core.Logic.{_↔_}
 use mathlib.Core.List.{List, [], _∷_, _++_, map}
 use Rattle.algebra.specs.Ring.{CommRing}
 use Rattle.algebra.proofs.Laws as laws
@@ -18,11 +17,10 @@ use Rattle.ideal.proofs.Product.{product-of, product-in, product-ideal,
 use Rattle.ideal.proofs.Rules.{ring}
 
 module _ (R : CommRing) where
-  open CommRing R using (Car, zero, one, add as _⊕_, mul as _⊗_, neg as ⊖_)
+  open CommRing R using (Car, zero, one, add as _⊕_, mul as _⊗_)
 
   infixl 60 _⊕_
   infixl 70 _⊗_
-  infix 80 ⊖_
   abbrev pub Extend : (Car → Type 0) → Car → Car → Type 0
   Extend I g h = (r s : Car) × I s × (h ≡ r ⊗ g ⊕ s)
 

@@ -9,22 +9,22 @@
 --   ker-not                        no element of pole number d + 5 is in the kernel
 --   ker-lower                      a constant multiple of an element of pole number d + 5 takes h into the kernel
 --   nondegenerate                  if h·r is in the kernel for each r, then h is a multiple of f
-use mathlib.Core.Path.{_≡_, refl, sym, _∙_, ap, subst}
-use mathlib.Core.Logic.{_⊎_, inl, inr, ⊎-elim}
-use Prim.Native.Nat.{ℕ, suc, _+_, _-_, _≤_, _<_}
-use native.Mathlib.Decide.{ℕ-discrete, decLe}
+use mathlib.Core.Path.{_≡_, sym, _∙_, subst}
+use mathlib.Core.Logic.{⊎-elim}
+use Prim.Native.Nat.{ℕ, suc, _+_, _-_, _≤_}
+use native.Mathlib.Decide.{decLe}
 use native.Mathlib.Omega.{arith}
 use Rattle.algebra.specs.Ring.{CommRing}
 use Rattle.algebra.proofs.Laws as laws
 use Rattle.ideal.specs.Ideal.{Multiple}
 use Rattle.ideal.specs.Poles.{largest-gap, IsPole, Poles, HasPole}
 use Rattle.ideal.proofs.Gaps.{Split, above, across, split, pole-apart, pole-large}
-use Rattle.ideal.proofs.Degree.{below-neg, below-scale, below-step, degree, lowered, mono-has, neg-one-constant, pole-add, pole-at, pole-cong, pole-mul, pole-neg, pole-nonzero, pole-number, pole-unique}
+use Rattle.ideal.proofs.Degree.{below-scale, below-step, degree, lowered, mono-has, neg-one-constant, pole-add, pole-at, pole-cong, pole-mul, pole-neg, pole-nonzero, pole-number, pole-unique}
 use Rattle.ideal.proofs.Rules as rules
 use Rattle.ideal.proofs.Rules.{ring}
 
 module _ {R : CommRing} (P : Poles R) where
-  open CommRing R using (Car, zero, one, add as _⊕_, mul as _⊗_, neg as ⊖_)
+  open CommRing R using (Car, zero, add as _⊕_, mul as _⊗_, neg as ⊖_)
   open Poles P using (Below, mono, below-zero, below-add, below-mono, below-none, below-some)
 
   infixl 60 _⊕_

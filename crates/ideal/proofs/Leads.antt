@@ -10,9 +10,9 @@
 --   least-unique       … and only one
 --   least-multiple     an element of J with the pole number of the least is a constant multiple of it
 --   based-same         sets with the same elements are based together
-use mathlib.Core.Path.{_≡_, refl, sym, _∙_, ap, subst}
-use mathlib.Core.Logic.{_⊎_, inl, inr, ⊎-elim, _↔_}
-use Prim.Native.Nat.{ℕ, suc, _+_, _≤_, _<_}
+use mathlib.Core.Path.{_≡_, sym, _∙_, subst}
+use mathlib.Core.Logic.{_⊎_, inl, inr, ⊎-elim}
+use Prim.Native.Nat.{ℕ, suc, _≤_, _<_}
 use native.Mathlib.Decide.{ℕ-discrete, decLe}
 use native.Mathlib.Omega.{arith}
 use Rattle.algebra.specs.Ring.{CommRing}
@@ -20,12 +20,11 @@ use Rattle.algebra.proofs.Laws as laws
 use Rattle.ideal.specs.Ideal.{IsIdeal, SameIdeal}
 use Rattle.ideal.specs.Poles.{Poles, HasPole, Monic}
 use Rattle.ideal.specs.Reduced.{Least}
-use Rattle.ideal.proofs.Degree.{below-neg, below-step, degree, lowered, monic-pole, monic-multiple, pole-below, pole-scale, pole-unique, neg-one-constant}
-use Rattle.ideal.proofs.Rules as rules
+use Rattle.ideal.proofs.Degree.{below-neg, below-step, degree, lowered, monic-pole, monic-multiple, pole-below, neg-one-constant}
 use Rattle.ideal.proofs.Rules.{ring}
 
 module _ {R : CommRing} (P : Poles R) where
-  open CommRing R using (Car, zero, one, add as _⊕_, mul as _⊗_, neg as ⊖_)
+  open CommRing R using (Car, zero, add as _⊕_, mul as _⊗_, neg as ⊖_)
   open Poles P using (Below, mono, below-add, below-none, below-some)
 
   infixl 60 _⊕_

@@ -13,5 +13,6 @@ pub mod Recognise
 pub mod Generated
 pub mod Adjoin
 pub mod Finite
+pub mod Star
 pub mod Span
 pub mod Triple

@@ -12,7 +12,7 @@
 --   productof-equivalent   … and so for lists
 --   productof-join         if A ~ ∏ xs and B ~ ∏ ys, then A·B ~ ∏ (xs ++ ys)
 use mathlib.Core.Path.{_≡_, refl, sym, _∙_, ap, subst}
-use mathlib.Core.Logic.{_↔_, Iff·rfl, Iff·symm, Iff·trans}
+use mathlib.Core.Logic.{Iff·rfl, Iff·symm, Iff·trans}
 use mathlib.Core.List.{List, [], _∷_, _++_}
 use Rattle.algebra.specs.Ring.{CommRing}
 use Rattle.algebra.proofs.Laws as laws
@@ -20,14 +20,12 @@ use Rattle.ideal.specs.Ideal.{IsIdeal, Product, none, more, ProductOf, S
 use Rattle.ideal.specs.Poles.{Poles}
 use Rattle.ideal.proofs.Every.{Every}
 use Rattle.ideal.proofs.Class.{equivalent-refl, equivalent-same, equivalent-sym, equivalent-trans}
-use Rattle.ideal.proofs.Rules.{ring}
 
 module _ (R : CommRing) where
-  open CommRing R using (Car, zero, one, add as _⊕_, mul as _⊗_, neg as ⊖_)
+  open CommRing R using (Car, zero, add as _⊕_, mul as _⊗_)
 
   infixl 60 _⊕_
   infixl 70 _⊗_
-  infix 80 ⊖_
   pub product-of : {I J : Car → Type 0} {a b : Car} → I a → J b → Product R I J (a ⊗ b)
   product-of {a = a} {b} ia jb = more {s = zero} ia jb (none refl) (sym (R .add-zero (a ⊗ b)))
 
@@ -93,11 +91,10 @@ module _ (R : CommRing) where
     productof-one x i h = Iff·trans (product-comm h) (product-unit i h)
 
 module _ {R : CommRing} (P : Poles R) where
-  open CommRing R using (Car, zero, one, add as _⊕_, mul as _⊗_, neg as ⊖_)
+  open CommRing R using (Car, zero, add as _⊕_, mul as _⊗_)
 
   infixl 60 _⊕_
   infixl 70 _⊗_
-  infix 80 ⊖_
   -- a·g = b·h of each first factor gives it for the sum of the products.
   there-product : {I I′ J : Car → Type 0} {a b : Car} → ((g : Car) → I g → (h : Car) × I′ h × (a ⊗ g ≡ b ⊗ h)) → {g : Car} → Product R I J g → (h : Car) × Product R I′ J h × (a ⊗ g ≡ b ⊗ h)
   there-product {a = a} {b} f (none e) = (zero, none refl, ap (λ t. a ⊗ t) e ∙ laws.mul-zero R a ∙ sym (laws.mul-zero R b))

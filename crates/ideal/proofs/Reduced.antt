@@ -12,29 +12,27 @@
 --   reduced-exists         a based ideal with a lead has a reduced ideal
 --   reduced-footprint      the reduced ideal of a based ideal has a small footprint
 --   reduced-equivalent     f′·J = f·(f′ : (f : J)), so J is equivalent to its reduced ideal
-use mathlib.Core.Path.{_≡_, refl, sym, _∙_, ap, subst}
-use mathlib.Core.Logic.{_↔_, Iff·rfl, Iff·symm, Iff·trans}
+use mathlib.Core.Path.{_≡_, sym, _∙_, ap, subst}
+use mathlib.Core.Logic.{Iff·rfl, Iff·symm, Iff·trans}
 use Prim.Native.Nat.{ℕ, _+_, _-_, _≤_}
 use native.Mathlib.Decide.{decLe}
 use native.Mathlib.Omega.{arith}
 use Rattle.algebra.specs.Ring.{CommRing}
 use Rattle.algebra.proofs.Laws as laws
 use Rattle.ideal.specs.Ideal.{IsIdeal, Multiple, Colon, SameIdeal, Equivalent}
-use Rattle.ideal.specs.Poles.{largest-gap, Poles, HasPole, Monic}
+use Rattle.ideal.specs.Poles.{largest-gap, Poles, HasPole}
 use Rattle.ideal.specs.Reduced.{Least, IsStar, IsReduced}
 use Rattle.ideal.proofs.Gaps.{pole-large}
 use Rattle.ideal.proofs.Degree.{cancel, monic-pole, pole-nonzero}
 use Rattle.ideal.proofs.Leads.{ideal-space, Lead, Based, based-same, least, least-same, least-unique}
 use Rattle.ideal.proofs.Colon.{colon-ideal, colon-self, colon-same, colon-not, colon-lead, colon-based, colon-colon}
-use Rattle.ideal.proofs.Class.{equivalent-refl, equivalent-same, equivalent-trans, equivalent-ideal, equivalent-least, star-class}
+use Rattle.ideal.proofs.Class.{equivalent-refl, equivalent-ideal, equivalent-least, star-class}
 use Rattle.ideal.proofs.Rules.{ring}
 
 module _ {R : CommRing} (P : Poles R) where
-  open CommRing R using (Car, zero, one, add as _⊕_, mul as _⊗_, neg as ⊖_)
+  open CommRing R using (Car, mul as _⊗_)
 
-  infixl 60 _⊕_
   infixl 70 _⊗_
-  infix 80 ⊖_
   pub record SmallFootprint (A : Car → Type 0) : Type 0 where
     pub ideal : IsIdeal R A
     pub based : Based P A

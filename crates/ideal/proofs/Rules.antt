@@ -2,12 +2,12 @@
 --   move               a + b = c gives a = c − b
 --   unscale            a·b = 1 gives (a·f)·(b·q) = f·q
 --   ring               algebra's rule set for simp, with cancelling at a greater distance
-use mathlib.Core.Path.{_≡_, refl, sym, _∙_, ap}
+use mathlib.Core.Path.{_≡_, sym, _∙_, ap}
 use Rattle.algebra.specs.Ring.{CommRing}
 use Rattle.algebra.proofs.Laws as laws
 
 module _ (R : CommRing) where
-  open CommRing R using (Car, zero, one, add as _⊕_, mul as _⊗_, neg as ⊖_, add-comm, add-assoc, add-zero, add-neg, mul-comm, mul-assoc, mul-one, mul-add)
+  open CommRing R using (Car, one, add as _⊕_, mul as _⊗_, neg as ⊖_, add-assoc, add-zero, add-neg, mul-assoc)
 
   infixl 60 _⊕_
   infixl 70 _⊗_

@@ -1,6 +1,7 @@
 -- Spans over k[x], where x is the monomial of pole number 3, y that of pole number 4, and k the constants.
 --   InX p                  p is a polynomial in x: zero, or c + x·q with a constant c and q in k[x]
 --   inx-pole               the pole number of p is a multiple of 3
+--   x-power i              xⁱ; inx-monomial: c·xⁱ is in k[x]
 --   Span bs                p₁·b₁ + … + pₙ·bₙ with the pᵢ in k[x]
 --   span-space             it is a space, and closed under multiples from k[x]
 --   span-each              it holds each b
@@ -12,9 +13,9 @@
 --   span-generated         … and then it is the ideal that bs generates
 --   span-product           the product of Span bs and Span cs is the span of the products
 use mathlib.Core.Path.{_≡_, refl, sym, _∙_, ap, subst}
-use mathlib.Core.Logic.{_⊎_, inl, inr, ⊎-elim, _↔_}
-use mathlib.Core.List.{List, [], _∷_, _++_, map}
-use Prim.Native.Nat.{ℕ, suc, _+_, _*_, _-_, _/_, _%_, _≤_, _<_}
+use mathlib.Core.Logic.{_⊎_, inl, inr}
+use mathlib.Core.List.{List, [], _∷_}
+use Prim.Native.Nat.{ℕ, suc, _+_, _*_, _-_, _/_, _%_}
 use native.Mathlib.Decide.{ℕ-discrete}
 use native.Mathlib.Omega.{arith}
 use Rattle.algebra.specs.Ring.{CommRing}
@@ -23,19 +24,18 @@ use Rattle.ideal.specs.Ideal.{IsIdeal, Generated, Product, none, more, S
 use Rattle.ideal.specs.Poles.{IsPole, Poles, HasPole}
 use Rattle.ideal.proofs.Gaps.{pole-apart, pole-intro}
 use Rattle.ideal.proofs.Degree.{below-scale, degree, mono-has, one-pole, pole-add, pole-at, pole-below, pole-cong, pole-mul, pole-nonzero, pole-number, pole-unique}
-use Rattle.ideal.proofs.Every.{Every, every-map, every-append, every-left, every-right, every-image, every-source}
+use Rattle.ideal.proofs.Every.{Every, every-map}
 use Rattle.ideal.proofs.Leads.{IsSpace, ideal-space, Lead, lowering}
 use Rattle.ideal.proofs.Product.{product-sum, product-times}
 use Rattle.ideal.proofs.Generated.{products, products-each, products-source, generated-ideal, generated-each, generated-in}
 use Rattle.ideal.proofs.Rules.{ring}
 
 module _ {R : CommRing} (P : Poles R) where
-  open CommRing R using (Car, zero, one, add as _⊕_, mul as _⊗_, neg as ⊖_)
+  open CommRing R using (Car, zero, one, add as _⊕_, mul as _⊗_)
   open Poles P using (Below, mono, below-zero, below-add, below-mono)
 
   infixl 60 _⊕_
   infixl 70 _⊗_
-  infix 80 ⊖_
   abbrev pub x : Car
   x = mono 3
 
@@ -90,6 +90,23 @@ module _ {R : CommRing} (P : Poles R) where
       go : ((m : ℕ) → HasPole P q m → (j : ℕ) × (m ≡ 3 * j)) → (q ≡ zero) ⊎ ((m : ℕ) × HasPole P q m) → (j : ℕ) × (n ≡ 3 * j)
       go ih (inl z) = (0, omega (arith, pole-below P (pole-cong P (e ∙ rw z (simp ring)) ph) b))
       go ih (inr (m, pq)) = next pq (ih m pq)
+
+  unfoldable pub x-power : ℕ → Car
+  x-power ℕ.zero = one
+  x-power (suc i) = x ⊗ x-power i
+
+  pub x-power-pole : (i : ℕ) → HasPole P (x-power i) (3 * i)
+  unfolding x-power
+  x-power-pole ℕ.zero = pole-at P (omega arith) (one-pole P)
+  x-power-pole (suc i) = pole-at P (omega arith) (pole-mul P (mono-has P three-pole) (x-power-pole i))
+
+  pub inx-power : (i : ℕ) → InX (x-power i)
+  unfolding x-power
+  inx-power ℕ.zero = inx-constant (one-pole P .upper)
+  inx-power (suc i) = inx-x (inx-power i)
+
+  pub inx-monomial : {c : Car} → Below 1 c → (i : ℕ) → InX (c ⊗ x-power i)
+  inx-monomial b i = inx-scale b (inx-power i)
 
   abbrev pub Span : List Car → Car → Type 0
   Span [] h = h ≡ zero

@@ -5,17 +5,17 @@
 --   triple-lead        each lead of the span is reached by one of the three pole numbers
 --   triple-reach       … and each number so reached is a lead
 --   triple-based       so the span is based
+--   triple-lowest      its pole numbers are at least the lowest of the three
 use mathlib.Core.Path.{_≡_, refl, sym, _∙_, ap, subst}
-use mathlib.Core.Logic.{_⊎_, inl, inr, ⊎-elim, _↔_}
+use mathlib.Core.Logic.{_⊎_, inl, inr, ⊎-elim}
 use mathlib.Core.List.{List, [], _∷_}
-use Prim.Native.Nat.{ℕ, suc, _+_, _*_, _-_, _/_, _%_, _≤_, _<_}
+use Prim.Native.Nat.{ℕ, _*_, _-_, _/_, _%_, _≤_}
 use native.Mathlib.Decide.{ℕ-discrete, decLe}
 use native.Mathlib.Omega.{arith}
 use Rattle.algebra.specs.Ring.{CommRing}
 use Rattle.algebra.proofs.Laws as laws
 use Rattle.ideal.specs.Poles.{Poles, HasPole}
 use Rattle.ideal.proofs.Degree.{degree, pole-cong, pole-mul, pole-nonzero, pole-unique}
-use Rattle.ideal.proofs.Every.{Every}
 use Rattle.ideal.proofs.Leads.{Lead, Based}
 use Rattle.ideal.proofs.Adjoin.{sum-lead}
 use Rattle.ideal.proofs.Span.{InX, inx-pole, Span, span-x, span-each, x-lead}
@@ -32,9 +32,8 @@ reach-dec d n = go (decLe d n) (ℕ-discrete (n % 3) (d % 3))
     go (no l) e = no (λ r. l (r .0))
 
 module _ {R : CommRing} (P : Poles R) where
-  open CommRing R using (Car, zero, one, add as _⊕_, mul as _⊗_)
+  open CommRing R using (Car, zero, mul as _⊗_)
 
-  infixl 60 _⊕_
   infixl 70 _⊗_
   pub span-reach : (bs : List Car) {b : Car} {d n : ℕ} → Span P bs b → HasPole P b d → Reach d n → Lead P (Span P bs) n
   span-reach bs {b} {d} {n} m p (l, e) = subst (Lead P (Span P bs)) (omega arith) (x-lead P (span-x P bs) ((n - d) / 3) (b, m, p))
@@ -81,3 +80,6 @@ module _ {R : CommRing} (P : Poles R) where
         go (no a) (yes r) c = yes (triple-reach n (inr (inl r)))
         go (no a) (no b) (yes r) = yes (triple-reach n (inr (inr r)))
         go (no a) (no b) (no c) = no (λ l. ⊎-elim a (⊎-elim b c) (triple-lead n l))
+
+    pub triple-lowest : {d : ℕ} → d ≤ d₀ → d ≤ d₁ → d ≤ d₂ → (h : Car) (n : ℕ) → Span P (b₀ ∷ b₁ ∷ b₂ ∷ []) h → HasPole P h n → d ≤ n
+    triple-lowest {d} l₀ l₁ l₂ h n m p = ⊎-elim (λ r. omega arith) (⊎-elim (λ r. omega arith) (λ r. omega arith)) (triple-lead n (h, m, p))
