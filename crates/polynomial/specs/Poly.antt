@@ -59,11 +59,11 @@ module _ (A : CommRing) where
   unfolding Poly coef
   finite f = f .1
 
-  pub const : A .Car → Poly .Car
+  unfoldable pub const : A .Car → Poly .Car
   const k = poly (constant A k) (finite-constant A k)
 
-  pub X : Poly .Car
+  unfoldable pub X : Poly .Car
   X = poly (shift A (constant A (A .one))) (finite-shift A (constant A (A .one)) (finite-constant A (A .one)))
 
-  pub rest : Poly .Car → Poly .Car
+  unfoldable pub rest : Poly .Car → Poly .Car
   rest f = poly (tail A (coef f)) (finite-tail A (coef f) (finite f))

@@ -13,7 +13,7 @@ module _ (A : CommRing) where
   add-swap : (a b c : Car) → a ⊕ (b ⊕ c) ≡ b ⊕ (a ⊕ c)
   add-swap a b c = sym (add-assoc a b c) ∙ ap (λ t. t ⊕ c) (add-comm a b) ∙ add-assoc b a c
 
-  zero-add : (a : Car) → 𝟘 ⊕ a ≡ a
+  pub zero-add : (a : Car) → 𝟘 ⊕ a ≡ a
   zero-add a = add-comm 𝟘 a ∙ add-zero a
 
   pub mul-zero : (a : Car) → a ⊗ 𝟘 ≡ 𝟘
@@ -24,7 +24,7 @@ module _ (A : CommRing) where
   pub neg-zero : ⊖ 𝟘 ≡ 𝟘
   neg-zero = sym (zero-add (⊖ 𝟘)) ∙ add-neg 𝟘
 
-  zero-mul : (a : Car) → 𝟘 ⊗ a ≡ 𝟘
+  pub zero-mul : (a : Car) → 𝟘 ⊗ a ≡ 𝟘
   zero-mul a = mul-comm 𝟘 a ∙ mul-zero a
 
   add-mul : (a b c : Car) → (a ⊕ b) ⊗ c ≡ a ⊗ c ⊕ b ⊗ c

@@ -1,0 +1,4 @@
+-- Facts on polynomials.
+pub mod Coef
+pub mod Induct
+pub mod Bound

@@ -1,0 +1,27 @@
+-- The formal derivative of a polynomial over a commutative ring A.
+--   numeral A n        1 + … + 1, n times, in A
+--   deriv A f          the derivative: its coefficient at i is (i + 1)·fᵢ₊₁
+use mathlib.Core.Path.{_≡_, refl, _∙_, ap}
+use mathlib.Core.Logic.{∥∥₁-map}
+use Prim.Native.Nat.{ℕ, zero, suc}
+use native.Mathlib.Omega.{arith}
+use Rattle.algebra.specs.Ring.{CommRing}
+use Rattle.polynomial.specs.Series.{Series}
+use Rattle.polynomial.specs.SeriesLaws.{mul-zero}
+use Rattle.polynomial.specs.Bounds.{Finite}
+use Rattle.polynomial.specs.Poly.{Poly, coef, poly, finite}
+
+module _ (A : CommRing) where
+  unfoldable pub numeral : ℕ → A .Car
+  numeral zero = A .zero
+  numeral (suc n) = A .add (numeral n) (A .one)
+
+  unfoldable pub deriv-series : Series A → Series A
+  deriv-series a i = A .mul (numeral (suc i)) (a (suc i))
+
+  pub finite-deriv : (a : Series A) → Finite A a → Finite A (deriv-series a)
+  unfolding deriv-series
+  finite-deriv a h = ∥∥₁-map h (λ x. (x .0, λ i k. ap (A .mul (numeral (suc i))) (x .1 (suc i) (omega arith)) ∙ mul-zero A _))
+
+  unfoldable pub deriv : Poly A .Car → Poly A .Car
+  deriv f = poly A (deriv-series (coef A f)) (finite-deriv (coef A f) (finite A f))
