@@ -7,8 +7,9 @@ use mathlib.Core.Logic.{∥∥₁-map, ∥∥₁-map₂}
 use Prim.Native.Nat.{ℕ, zero, suc, _+_, _≤_, suc-le-suc}
 use native.Mathlib.Omega.{arith}
 use Rattle.algebra.specs.Ring.{CommRing}
+use Rattle.algebra.proofs.Laws.{mul-zero, neg-zero}
 use Rattle.polynomial.specs.Series.{Series, tail, product, constant, shift, product-head, product-next, constant-next, shift-next}
-use Rattle.polynomial.specs.SeriesLaws.{zero-product, mul-zero, neg-zero}
+use Rattle.polynomial.specs.SeriesLaws.{zero-product}
 
 module _ (A : CommRing) where
   open CommRing A using (Car, zero as 𝟘, one as 𝟙, add as _⊕_, mul as _⊗_, neg as ⊖_, add-zero)

@@ -6,8 +6,8 @@ use mathlib.Core.Logic.{∥∥₁-map}
 use Prim.Native.Nat.{ℕ, zero, suc}
 use native.Mathlib.Omega.{arith}
 use Rattle.algebra.specs.Ring.{CommRing}
+use Rattle.algebra.proofs.Laws.{mul-zero}
 use Rattle.polynomial.specs.Series.{Series}
-use Rattle.polynomial.specs.SeriesLaws.{mul-zero}
 use Rattle.polynomial.specs.Bounds.{Finite}
 use Rattle.polynomial.specs.Poly.{Poly, coef, poly, finite}
 

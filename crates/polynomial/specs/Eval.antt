@@ -9,8 +9,8 @@ use mathlib.Core.HLevel.{Σ-prop-path}
 use Prim.Native.Nat.{ℕ, zero, suc}
 use native.Mathlib.Omega.{arith}
 use Rattle.algebra.specs.Ring.{CommRing}
+use Rattle.algebra.proofs.Laws.{mul-zero}
 use Rattle.polynomial.specs.Series.{Series, tail}
-use Rattle.polynomial.specs.SeriesLaws.{mul-zero}
 use Rattle.polynomial.specs.Bounds.{Bound, bound-tail}
 use Rattle.polynomial.specs.Poly.{Poly, coef, finite}
 use Rattle.polynomial.specs.RingMap.{RingMap}

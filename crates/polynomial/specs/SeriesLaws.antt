@@ -2,53 +2,29 @@
 use mathlib.Core.Path.{_≡_, refl, sym, _∙_, ap, ap₂}
 use Prim.Native.Nat.{ℕ, zero, suc}
 use Rattle.algebra.specs.Ring.{CommRing}
+use Rattle.algebra.proofs.Laws.{add-left-comm, swap-add, zero-mul}
 use Rattle.polynomial.specs.Series.{Series, tail, product, constant, product-head, product-next, constant-head, constant-next}
 
 module _ (A : CommRing) where
-  open CommRing A using (Car, zero as 𝟘, one as 𝟙, add as _⊕_, mul as _⊗_, neg as ⊖_, add-comm, add-assoc, add-zero, add-neg, mul-comm, mul-assoc, mul-one, mul-add)
+  open CommRing A using (Car, zero as 𝟘, one as 𝟙, add as _⊕_, mul as _⊗_, add-comm, add-assoc, add-zero, mul-comm, mul-assoc, mul-one, mul-add)
 
   infixl 60 _⊕_
   infixl 70 _⊗_
-  infix 80 ⊖_
-  add-swap : (a b c : Car) → a ⊕ (b ⊕ c) ≡ b ⊕ (a ⊕ c)
-  add-swap a b c = sym (add-assoc a b c) ∙ ap (λ t. t ⊕ c) (add-comm a b) ∙ add-assoc b a c
-
-  pub zero-add : (a : Car) → 𝟘 ⊕ a ≡ a
-  zero-add a = add-comm 𝟘 a ∙ add-zero a
-
-  pub mul-zero : (a : Car) → a ⊗ 𝟘 ≡ 𝟘
-  mul-zero a =
-      sym (add-zero (a ⊗ 𝟘)) ∙ ap (λ t. a ⊗ 𝟘 ⊕ t) (sym (add-neg (a ⊗ 𝟘))) ∙ sym (add-assoc _ _ _)
-      ∙ ap (λ t. t ⊕ ⊖ (a ⊗ 𝟘)) (sym (mul-add a 𝟘 𝟘) ∙ ap (λ t. a ⊗ t) (add-zero 𝟘)) ∙ add-neg (a ⊗ 𝟘)
-
-  pub neg-zero : ⊖ 𝟘 ≡ 𝟘
-  neg-zero = sym (zero-add (⊖ 𝟘)) ∙ add-neg 𝟘
-
-  pub zero-mul : (a : Car) → 𝟘 ⊗ a ≡ 𝟘
-  zero-mul a = mul-comm 𝟘 a ∙ mul-zero a
-
-  add-mul : (a b c : Car) → (a ⊕ b) ⊗ c ≡ a ⊗ c ⊕ b ⊗ c
-  add-mul a b c = mul-comm (a ⊕ b) c ∙ mul-add c a b ∙ ap₂ _⊕_ (mul-comm c a) (mul-comm c b)
-
   -- The recursion from the other side: (ab)ₙ₊₁ = aₙ₊₁·b₀ + (a·tail b)ₙ.
   pub product-next′ : (a b : Series A) (n : ℕ) → product A a b (suc n) ≡ a (suc n) ⊗ b zero ⊕ product A a (tail A b) n
   product-next′ a b zero = product-next A a b zero ∙ ap (λ t. a zero ⊗ b (suc zero) ⊕ t) (product-head A (tail A a) b) ∙ add-comm _ _ ∙ ap (λ t. a (suc zero) ⊗ b zero ⊕ t) (sym (product-head A a (tail A b)))
   product-next′ a b (suc n) =
       product-next A a b (suc n) ∙ ap (λ t. a zero ⊗ b (suc (suc n)) ⊕ t) (product-next′ (tail A a) b n)
-      ∙ add-swap _ _ _ ∙ ap (λ t. a (suc (suc n)) ⊗ b zero ⊕ t) (sym (product-next A a (tail A b) n))
+      ∙ add-left-comm A _ _ _ ∙ ap (λ t. a (suc (suc n)) ⊗ b zero ⊕ t) (sym (product-next A a (tail A b) n))
 
   pub product-comm : (a b : Series A) (n : ℕ) → product A a b n ≡ product A b a n
   product-comm a b zero = product-head A a b ∙ mul-comm _ _ ∙ sym (product-head A b a)
   product-comm a b (suc n) = product-next A a b n ∙ ap₂ _⊕_ (mul-comm _ _) (product-comm (tail A a) b n) ∙ sym (product-next′ b a n)
 
-  -- Sums of products of four terms, regrouped.
-  regroup : (x y z w : Car) → (x ⊕ y) ⊕ (z ⊕ w) ≡ (x ⊕ z) ⊕ (y ⊕ w)
-  regroup x y z w = simp (add-assoc, add-swap)
-
   pub product-add : (a b c : Series A) (n : ℕ) → product A a (λ i. b i ⊕ c i) n ≡ product A a b n ⊕ product A a c n
   product-add a b c zero = product-head A a _ ∙ mul-add _ _ _ ∙ ap₂ _⊕_ (sym (product-head A a b)) (sym (product-head A a c))
   product-add a b c (suc n) =
-      product-next A a _ n ∙ ap₂ _⊕_ (mul-add _ _ _) (product-add (tail A a) b c n) ∙ regroup _ _ _ _
+      product-next A a _ n ∙ ap₂ _⊕_ (mul-add _ _ _) (product-add (tail A a) b c n) ∙ swap-add A _ _ _ _
       ∙ ap₂ _⊕_ (sym (product-next A a b n)) (sym (product-next A a c n))
 
   pub product-scale : (k : Car) (a b : Series A) (n : ℕ) → product A (λ i. k ⊗ a i) b n ≡ k ⊗ product A a b n
@@ -76,9 +52,9 @@ module _ (A : CommRing) where
       ∙ assoc-step ∙ ap (λ t. a zero ⊗ t ⊕ product A (tail A a) (product A b c) n) (sym (product-next A b c n)) ∙ sym (product-next A a _ n)
 
   pub zero-product : (a b : Series A) → ((i : ℕ) → a i ≡ 𝟘) → (n : ℕ) → product A a b n ≡ 𝟘
-  zero-product a b h zero = product-head A a b ∙ ap (λ t. t ⊗ b zero) (h zero) ∙ zero-mul _
+  zero-product a b h zero = product-head A a b ∙ ap (λ t. t ⊗ b zero) (h zero) ∙ zero-mul A _
   zero-product a b h (suc n) =
-      product-next A a b n ∙ ap₂ _⊕_ (ap (λ t. t ⊗ b (suc n)) (h zero) ∙ zero-mul _) (zero-product (tail A a) b (λ i. h (suc i)) n) ∙ add-zero 𝟘
+      product-next A a b n ∙ ap₂ _⊕_ (ap (λ t. t ⊗ b (suc n)) (h zero) ∙ zero-mul A _) (zero-product (tail A a) b (λ i. h (suc i)) n) ∙ add-zero 𝟘
 
   pub constant-product : (k : Car) (b : Series A) (n : ℕ) → product A (constant A k) b n ≡ k ⊗ b n
   constant-product k b zero = product-head A _ b ∙ ap (λ t. t ⊗ b zero) (constant-head A k)
