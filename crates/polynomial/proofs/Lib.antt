@@ -2,3 +2,5 @@
 pub mod Coef
 pub mod Induct
 pub mod Bound
+pub mod Deriv
+pub mod Eval

@@ -14,7 +14,7 @@ use Rattle.polynomial.specs.Poly.{Poly, coef, poly, finite}
 module _ (A : CommRing) where
   unfoldable pub numeral : ℕ → A .Car
   numeral zero = A .zero
-  numeral (suc n) = A .add (numeral n) (A .one)
+  numeral (suc n) = A .add (A .one) (numeral n)
 
   unfoldable pub deriv-series : Series A → Series A
   deriv-series a i = A .mul (numeral (suc i)) (a (suc i))
