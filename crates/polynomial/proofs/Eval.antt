@@ -17,7 +17,7 @@ use Rattle.polynomial.specs.Bounds.{Bound, bound-add, bound-more}
 use Rattle.polynomial.specs.Poly.{Poly, coef, poly, poly-path, const, X, finite}
 use Rattle.polynomial.specs.RingMap.{RingMap}
 use Rattle.polynomial.specs.Eval.{horner, eval, eval-bound}
-use Rattle.polynomial.proofs.Coef.{coef-zero, coef-add, coef-const-head, coef-const-next, coef-X-head, coef-X-next, const-zero, const-one, const-mul}
+use Rattle.polynomial.proofs.Coef.{coef-zero, coef-add, coef-split-head, coef-split-next, const-zero, const-one, const-mul}
 use Rattle.polynomial.proofs.Induct.{induct}
 
 pub map-neg : {A B : CommRing} (φ : RingMap A B) (a : A .Car) → φ .map (A .neg a) ≡ B .neg (φ .map a)
@@ -52,20 +52,14 @@ module _ {A B : CommRing} (φ : RingMap A B) (b : B .Car) where
   pub eval-split : (k : A .Car) (f : Pol) → eval φ b (const A k +ₚ X A ·ₚ f) ≡ φ .map k ⊕ b ⊗ eval φ b f
   eval-split k f = ∥∥₁-elim (finite A f) (B .isSet _ _) (λ x. go (x .0) (x .1))
     where
-      head : coef A (const A k +ₚ X A ·ₚ f) zero ≡ k
-      head = coef-add A _ _ zero ∙ ap₂ (A .add) (coef-const-head A k) (coef-X-head A f) ∙ A .add-zero k
-
-      next : (i : ℕ) → coef A (const A k +ₚ X A ·ₚ f) (suc i) ≡ coef A f i
-      next i = coef-add A _ _ (suc i) ∙ ap₂ (A .add) (coef-const-next A k i) (coef-X-next A f i) ∙ zero-add A _
-
       bounded : (n : ℕ) → Bound A (coef A f) n → Bound A (coef A (const A k +ₚ X A ·ₚ f)) (suc n)
       bounded n p zero h = absurd (omega arith)
-      bounded n p (suc i) h = next i ∙ p i (omega arith)
+      bounded n p (suc i) h = coef-split-next A k f i ∙ p i (omega arith)
 
       go : (n : ℕ) → Bound A (coef A f) n → eval φ b (const A k +ₚ X A ·ₚ f) ≡ φ .map k ⊕ b ⊗ eval φ b f
       go n p =
           eval-bound φ b _ (suc n) (bounded n p) ∙ horner-next _ n
-          ∙ ap₂ (λ u v. φ .map u ⊕ b ⊗ v) head (ap (λ a. horner φ b a n) (fun-ext next) ∙ sym (eval-bound φ b f n p))
+          ∙ ap₂ (λ u v. φ .map u ⊕ b ⊗ v) (coef-split-head A k f) (ap (λ a. horner φ b a n) (fun-ext (coef-split-next A k f)) ∙ sym (eval-bound φ b f n p))
 
   pub eval-zero : eval φ b 𝟎 ≡ 𝟘
   unfolding horner

@@ -4,3 +4,6 @@ pub mod Induct
 pub mod Bound
 pub mod Deriv
 pub mod Eval
+pub mod Power
+pub mod Plane
+pub mod Division

@@ -1,7 +1,7 @@
 -- The formal derivative of a polynomial over a commutative ring A.
 --   numeral A n        1 + … + 1, n times, in A
 --   deriv A f          the derivative: its coefficient at i is (i + 1)·fᵢ₊₁
-use mathlib.Core.Path.{_≡_, refl, _∙_, ap}
+use mathlib.Core.Path.{_≡_, _∙_, ap}
 use mathlib.Core.Logic.{∥∥₁-map}
 use Prim.Native.Nat.{ℕ, zero, suc}
 use native.Mathlib.Omega.{arith}
@@ -9,7 +9,7 @@ use Rattle.algebra.specs.Ring.{CommRing}
 use Rattle.algebra.proofs.Laws.{mul-zero}
 use Rattle.polynomial.specs.Series.{Series}
 use Rattle.polynomial.specs.Bounds.{Finite}
-use Rattle.polynomial.specs.Poly.{Poly, coef, poly, finite}
+use Rattle.polynomial.specs.Poly.{Poly, coef, poly, poly-path, finite}
 
 module _ (A : CommRing) where
   unfoldable pub numeral : ℕ → A .Car
@@ -25,3 +25,7 @@ module _ (A : CommRing) where
 
   unfoldable pub deriv : Poly A .Car → Poly A .Car
   deriv f = poly A (deriv-series (coef A f)) (finite-deriv (coef A f) (finite A f))
+
+  pub deriv-of-zero : deriv (Poly A .zero) ≡ Poly A .zero
+  unfolding Poly coef poly deriv deriv-series
+  deriv-of-zero = poly-path A (λ i. mul-zero A _)

@@ -1,0 +1,2 @@
+-- The two derivatives of k[x, y].
+use mathlib.Core.Path.{_≡_}
