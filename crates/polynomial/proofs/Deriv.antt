@@ -11,7 +11,7 @@ use Rattle.algebra.proofs.Norm.{nil, unit}
 use Rattle.algebra.proofs.Sound.{number}
 use Rattle.algebra.proofs.Solve.{_⊞_, _⊠_, solve}
 use Rattle.polynomial.specs.Poly.{Poly, coef, poly, poly-path, const, X}
-use Rattle.polynomial.specs.Deriv.{numeral, deriv, deriv-series}
+use Rattle.polynomial.specs.Deriv.{numeral, deriv, deriv-series, deriv-of-zero}
 use Rattle.polynomial.proofs.Coef.{coef-zero, coef-add, coef-poly, coef-const-mul, coef-const-next, coef-X-head, coef-X-next, const-one}
 use Rattle.polynomial.proofs.Induct.{induct}
 
@@ -39,7 +39,7 @@ module _ (A : CommRing) where
   coef-deriv f i = coef-poly A _ _ i
 
   pub deriv-zero : deriv A 𝟎 ≡ 𝟎
-  deriv-zero = poly-path A (λ i. coef-deriv 𝟎 i ∙ ap (λ t. numeral A (suc i) ⊗ t) (coef-zero A (suc i)) ∙ mul-zero A _ ∙ sym (coef-zero A i))
+  deriv-zero = deriv-of-zero A
 
   pub deriv-add : (f g : Pol) → deriv A (f +ₚ g) ≡ deriv A f +ₚ deriv A g
   deriv-add f g = poly-path A (λ i. simp (coef-deriv, coef-add A, mul-add))

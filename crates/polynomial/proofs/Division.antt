@@ -11,7 +11,7 @@ use Prim.Native.Nat.{ℕ, zero, suc, _≤_, _<_}
 use native.Mathlib.Nat.{eq-or-lt-of-le}
 use native.Mathlib.Omega.{arith}
 use Rattle.algebra.specs.Ring.{CommRing}
-use Rattle.algebra.proofs.Laws.{zero-add, zero-mul, mul-zero, sub-zero→eq}
+use Rattle.algebra.proofs.Laws.{zero-add, zero-mul, mul-zero, sub-zero→eq, eq→sub-zero}
 use Rattle.algebra.proofs.Norm.{nil}
 use Rattle.algebra.proofs.Solve.{_⊞_, _⊠_, ⊟_, solve}
 use Rattle.polynomial.specs.Bounds.{Bound}
@@ -42,6 +42,25 @@ module _ (A : CommRing) where
 
   pub coef-quadratic-from : (a0 a1 a2 : Car) (i : ℕ) → coef A (quadratic A a0 a1 a2) (suc (suc (suc i))) ≡ 𝟘
   coef-quadratic-from a0 a1 a2 i = ap (λ f. coef A f (suc (suc (suc i)))) (quadratic-split a0 a1 a2) ∙ coef-split-next A _ _ (suc (suc i)) ∙ coef-split-next A _ _ (suc i) ∙ coef-const-next A a2 i
+
+  const-sub : (a b : Car) → const A (a ⊕ ⊖ b) ≡ const A a +ₚ -ₚ const A b
+  const-sub a b = const-add A a (⊖ b) ∙ ap (λ z. const A a +ₚ z) (const-neg A b)
+
+  const-less : (a b c : Car) → const A a +ₚ -ₚ (const A b ·ₚ const A c) ≡ const A (a ⊕ ⊖ (b ⊗ c))
+  const-less a b c = sym (const-sub a (b ⊗ c) ∙ ap (λ z. const A a +ₚ -ₚ z) (const-mul A b c))
+
+  pub quadratic-sub : (a0 a1 a2 b0 b1 b2 : Car) → quadratic A (a0 ⊕ ⊖ b0) (a1 ⊕ ⊖ b1) (a2 ⊕ ⊖ b2) ≡ quadratic A a0 a1 a2 +ₚ -ₚ quadratic A b0 b1 b2
+  unfolding quadratic
+  quadratic-sub a0 a1 a2 b0 b1 b2 =
+      (λ i. const-sub a0 b0 i +ₚ const-sub a1 b1 i ·ₚ X A +ₚ const-sub a2 b2 i ·ₚ (X A ·ₚ X A))
+      ∙ solve (Poly A) 7 (λ y a b c d e f. (a ⊞ ⊟ d) ⊞ (b ⊞ ⊟ e) ⊠ y ⊞ (c ⊞ ⊟ f) ⊠ (y ⊠ y)) (λ y a b c d e f. (a ⊞ b ⊠ y ⊞ c ⊠ (y ⊠ y)) ⊞ ⊟ (d ⊞ e ⊠ y ⊞ f ⊠ (y ⊠ y))) tt
+      (X A) (const A a0) (const A a1) (const A a2) (const A b0) (const A b1) (const A b2)
+
+  pub quadratic-zero : quadratic A 𝟘 𝟘 𝟘 ≡ 𝟎
+  unfolding quadratic
+  quadratic-zero =
+      (λ i. const-zero A i +ₚ const-zero A i ·ₚ X A +ₚ const-zero A i ·ₚ (X A ·ₚ X A))
+      ∙ solve (Poly A) 1 (λ y. nil ⊞ nil ⊠ y ⊞ nil ⊠ (y ⊠ y)) (λ y. nil) tt (X A)
 
   module _ (t0 t1 t2 : Car) where
     cubic-mul : (q : Pol) → q ·ₚ cubic A t0 t1 t2 ≡ X A ·ₚ (X A ·ₚ (X A ·ₚ q)) +ₚ const A t2 ·ₚ (X A ·ₚ (X A ·ₚ q)) +ₚ const A t1 ·ₚ (X A ·ₚ q) +ₚ const A t0 ·ₚ q
@@ -81,3 +100,38 @@ module _ (A : CommRing) where
 
         at : (i : ℕ) → coef A (quadratic A a0 a1 a2) i ≡ 𝟘
         at i = ap (λ f. coef A f i) rest ∙ coef-zero A i
+
+    -- Two divisions of one polynomial differ by a division of zero.
+    pub divide-unique : (q r : Pol) (a0 a1 a2 b0 b1 b2 : Car) → q ·ₚ cubic A t0 t1 t2 +ₚ quadratic A a0 a1 a2 ≡ r ·ₚ cubic A t0 t1 t2 +ₚ quadratic A b0 b1 b2 → (q ≡ r) × (a0 ≡ b0) × (a1 ≡ b1) × (a2 ≡ b2)
+    divide-unique q r a0 a1 a2 b0 b1 b2 e = (sub-zero→eq (Poly A) q r (z .0), sub-zero→eq A a0 b0 (z .1), sub-zero→eq A a1 b1 (z .2), sub-zero→eq A a2 b2 (z .3))
+      where
+        difference : (q +ₚ -ₚ r) ·ₚ cubic A t0 t1 t2 +ₚ quadratic A (a0 ⊕ ⊖ b0) (a1 ⊕ ⊖ b1) (a2 ⊕ ⊖ b2) ≡ (q ·ₚ cubic A t0 t1 t2 +ₚ quadratic A a0 a1 a2) +ₚ -ₚ (r ·ₚ cubic A t0 t1 t2 +ₚ quadratic A b0 b1 b2)
+        difference =
+            ap (λ u. (q +ₚ -ₚ r) ·ₚ cubic A t0 t1 t2 +ₚ u) (quadratic-sub a0 a1 a2 b0 b1 b2)
+            ∙ solve (Poly A) 5 (λ q r f u v. (q ⊞ ⊟ r) ⊠ f ⊞ (u ⊞ ⊟ v)) (λ q r f u v. (q ⊠ f ⊞ u) ⊞ ⊟ (r ⊠ f ⊞ v)) tt q r (cubic A t0 t1 t2) (quadratic A a0 a1 a2) (quadratic A b0 b1 b2)
+
+        z : (q +ₚ -ₚ r ≡ 𝟎) × (a0 ⊕ ⊖ b0 ≡ 𝟘) × (a1 ⊕ ⊖ b1 ≡ 𝟘) × (a2 ⊕ ⊖ b2 ≡ 𝟘)
+        z = rest-zero (q +ₚ -ₚ r) (a0 ⊕ ⊖ b0) (a1 ⊕ ⊖ b1) (a2 ⊕ ⊖ b2) (difference ∙ eq→sub-zero (Poly A) _ _ e)
+
+    pub divided-prop : (f : Pol) → IsProp (Divided A t0 t1 t2 f)
+    divided-prop f d e =
+        let u = divide-unique (d .0 .quotient) (e .0 .quotient) (d .0 .c0) (d .0 .c1) (d .0 .c2) (e .0 .c0) (e .0 .c1) (e .0 .c2) (sym (d .1) ∙ e .1) in
+        Σ-prop-path (λ p. Poly A .isSet _ _) (λ i. record { quotient = u .0 i; c0 = u .1 i; c1 = u .2 i; c2 = u .3 i })
+
+    -- Division of k + Y·f from that of f: Y·(a2·Y²) is a2·F less a2·(t2·Y² + t1·Y + t0).
+    divide-step : (k : Car) (f : Pol) → Divided A t0 t1 t2 f → Divided A t0 t1 t2 (const A k +ₚ X A ·ₚ f)
+    unfolding cubic quadratic
+    divide-step k f (d, e) = (
+      record { quotient = X A ·ₚ d .quotient +ₚ const A (d .c2); c0 = k ⊕ ⊖ (d .c2 ⊗ t0); c1 = d .c0 ⊕ ⊖ (d .c2 ⊗ t1); c2 = d .c1 ⊕ ⊖ (d .c2 ⊗ t2) },
+      ap (λ g. const A k +ₚ X A ·ₚ g) e
+          ∙ solve (Poly A) 9 (λ k y q a b c t0 t1 t2. k ⊞ y ⊠ (q ⊠ (y ⊠ y ⊠ y ⊞ t2 ⊠ (y ⊠ y) ⊞ t1 ⊠ y ⊞ t0) ⊞ (a ⊞ b ⊠ y ⊞ c ⊠ (y ⊠ y))))
+          (λ k y q a b c t0 t1 t2. (y ⊠ q ⊞ c) ⊠ (y ⊠ y ⊠ y ⊞ t2 ⊠ (y ⊠ y) ⊞ t1 ⊠ y ⊞ t0) ⊞ ((k ⊞ ⊟ (c ⊠ t0)) ⊞ (a ⊞ ⊟ (c ⊠ t1)) ⊠ y ⊞ (b ⊞ ⊟ (c ⊠ t2)) ⊠ (y ⊠ y))) tt
+          (const A k) (X A) (d .quotient) (const A (d .c0)) (const A (d .c1)) (const A (d .c2)) (const A t0) (const A t1) (const A t2)
+          ∙ (λ i. (X A ·ₚ d .quotient +ₚ const A (d .c2)) ·ₚ cubic A t0 t1 t2 +ₚ (const-less k (d .c2) t0 i +ₚ const-less (d .c0) (d .c2) t1 i ·ₚ X A +ₚ const-less (d .c1) (d .c2) t2 i ·ₚ (X A ·ₚ X A))),
+    )
+
+    pub divide : (f : Pol) → Divided A t0 t1 t2 f
+    divide = induct A (Divided A t0 t1 t2) divided-prop start divide-step
+      where
+        start : Divided A t0 t1 t2 𝟎
+        start = (record { quotient = 𝟎; c0 = 𝟘; c1 = 𝟘; c2 = 𝟘 }, sym (ap₂ _+ₚ_ (zero-mul (Poly A) (cubic A t0 t1 t2)) quadratic-zero ∙ Poly A .add-zero 𝟎))
