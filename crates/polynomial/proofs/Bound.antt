@@ -4,7 +4,7 @@
 --   bound D f          a bound of f
 --   is-zero D f        whether f is zero
 --   poly-discrete D    equality of polynomials is decidable
-use mathlib.Core.Path.{_≡_, sym, _∙_, ap, subst}
+use mathlib.Core.Path.{_≡_, _∙_, ap, subst}
 use mathlib.Core.Logic.{∥∥₁-elim, _⊎_, inl, inr}
 use mathlib.Core.HLevel.{Σ-prop-path, Π-prop, ×-prop}
 use Prim.Native.Nat.{ℕ, zero, suc, _≤_, _<_}

@@ -14,7 +14,7 @@ use mathlib.Core.Path.{_≡_, refl, sym, _∙_, ap, ap₂}
 use Prim.Native.Nat.{ℕ, zero, suc}
 use Rattle.algebra.specs.Ring.{CommRing}
 use Rattle.algebra.proofs.Laws.{mul-zero, zero-mul, neg-zero, zero-add}
-use Rattle.polynomial.specs.Series.{Series, tail, product, constant, shift, product-head, product-next, constant-head, constant-next}
+use Rattle.polynomial.specs.Series.{Series, product, constant, shift, product-head, product-next}
 use Rattle.polynomial.specs.SeriesLaws.{constant-product}
 use Rattle.polynomial.specs.Bounds.{Finite}
 use Rattle.polynomial.specs.Poly.{Poly, coef, poly, poly-path, const, X, rest}

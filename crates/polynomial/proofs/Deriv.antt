@@ -1,7 +1,7 @@
 -- The formal derivative: a derivation that takes the variable to 1 and constants to 0.
---   numeral-next numeral-number      the numerals of Deriv are those of the ring solver
+--   numeral-next numeral-one numeral-number      the numerals of Deriv are those of the ring solver
 --   coef-deriv         the coefficient of the derivative
---   deriv-zero deriv-add deriv-const deriv-const-mul deriv-X deriv-X-mul
+--   deriv-zero deriv-one deriv-add deriv-const deriv-const-mul deriv-X deriv-X-mul
 --   deriv-mul          the product rule
 use mathlib.Core.Path.{_≡_, refl, sym, _∙_, ap, ap₂}
 use Prim.Native.Nat.{ℕ, zero, suc}
@@ -10,7 +10,7 @@ use Rattle.algebra.proofs.Laws.{mul-zero, zero-add, zero-mul, one-mul, add-mul,
 use Rattle.algebra.proofs.Norm.{nil, unit}
 use Rattle.algebra.proofs.Sound.{number}
 use Rattle.algebra.proofs.Solve.{_⊞_, _⊠_, solve}
-use Rattle.polynomial.specs.Poly.{Poly, coef, poly, poly-path, const, X}
+use Rattle.polynomial.specs.Poly.{Poly, coef, poly-path, const, X}
 use Rattle.polynomial.specs.Deriv.{numeral, deriv, deriv-series, deriv-of-zero}
 use Rattle.polynomial.proofs.Coef.{coef-zero, coef-add, coef-poly, coef-const-mul, coef-const-next, coef-X-head, coef-X-next, const-one}
 use Rattle.polynomial.proofs.Induct.{induct}
@@ -30,7 +30,7 @@ module _ (A : CommRing) where
   numeral-number zero = refl
   numeral-number (suc n) = ap (λ t. 𝟙 ⊕ t) (numeral-number n)
 
-  numeral-one : numeral A 1 ≡ 𝟙
+  pub numeral-one : numeral A 1 ≡ 𝟙
   unfolding numeral
   numeral-one = add-zero 𝟙
 
@@ -47,6 +47,9 @@ module _ (A : CommRing) where
   pub deriv-const : (k : Car) → deriv A (const A k) ≡ 𝟎
   deriv-const k = poly-path A (λ i. simp (coef-deriv, coef-const-next A, mul-zero A, coef-zero A))
 
+  pub deriv-one : deriv A 𝟏 ≡ 𝟎
+  deriv-one = ap (deriv A) (sym (const-one A)) ∙ deriv-const 𝟙
+
   pub deriv-const-mul : (k : Car) (f : Pol) → deriv A (const A k ·ₚ f) ≡ const A k ·ₚ deriv A f
   deriv-const-mul k f = poly-path A (λ i. simp (coef-deriv, coef-const-mul A) (mul-left-comm A _ k _))
 
@@ -58,7 +61,7 @@ module _ (A : CommRing) where
       go (suc i) = simp (coef-deriv, coef-add A, coef-X-next A, numeral-next (suc i), add-mul A, one-mul A)
 
   pub deriv-X : deriv A (X A) ≡ 𝟏
-  deriv-X = ap (deriv A) (sym (Poly A .mul-one (X A))) ∙ deriv-X-mul 𝟏 ∙ ap (λ d. 𝟏 +ₚ X A ·ₚ d) (ap (deriv A) (sym (const-one A)) ∙ deriv-const 𝟙) ∙ solve (Poly A) 1 (λ x. unit ⊞ x ⊠ nil) (λ x. unit) tt (X A)
+  deriv-X = ap (deriv A) (sym (Poly A .mul-one (X A))) ∙ deriv-X-mul 𝟏 ∙ ap (λ d. 𝟏 +ₚ X A ·ₚ d) deriv-one ∙ solve (Poly A) 1 (λ x. unit ⊞ x ⊠ nil) (λ x. unit) tt (X A)
 
   -- (k + X·f)·g = k·g + X·(f·g), and the rule for f·g gives that for the left side.
   pub deriv-mul : (f g : Pol) → deriv A (f ·ₚ g) ≡ deriv A f ·ₚ g +ₚ f ·ₚ deriv A g

@@ -2,6 +2,7 @@
 --   map-neg            a ring map keeps negatives
 --   eval-split         the value of k + X·f is φ k + b·(the value of f)
 --   eval-zero eval-const eval-X eval-X-mul eval-one eval-add eval-mul
+--   constants A        const as a ring map
 --   evaluation φ b     eval φ b as a ring map
 --   eval-unique        a ring map that is φ on constants and b at X is eval φ b
 use mathlib.Core.Path.{_≡_, refl, sym, _∙_, ap, ap₂, fun-ext}
@@ -9,19 +10,22 @@ use mathlib.Core.Logic.{∥∥₁-elim}
 use Prim.Native.Nat.{ℕ, zero, suc, _+_}
 use native.Mathlib.Omega.{arith}
 use Rattle.algebra.specs.Ring.{CommRing}
-use Rattle.algebra.proofs.Laws.{mul-zero, zero-add, zero-mul, one-mul, add-mul, mul-left-comm, neg-unique}
+use Rattle.algebra.proofs.Laws.{mul-zero, zero-add, zero-mul, neg-unique}
 use Rattle.algebra.proofs.Norm.{nil}
 use Rattle.algebra.proofs.Solve.{_⊞_, _⊠_, solve}
 use Rattle.polynomial.specs.Series.{Series, tail}
 use Rattle.polynomial.specs.Bounds.{Bound, bound-add, bound-more}
-use Rattle.polynomial.specs.Poly.{Poly, coef, poly, poly-path, const, X, finite}
+use Rattle.polynomial.specs.Poly.{Poly, coef, const, X, finite}
 use Rattle.polynomial.specs.RingMap.{RingMap}
 use Rattle.polynomial.specs.Eval.{horner, eval, eval-bound}
-use Rattle.polynomial.proofs.Coef.{coef-zero, coef-add, coef-split-head, coef-split-next, const-zero, const-one, const-mul}
+use Rattle.polynomial.proofs.Coef.{coef-zero, coef-add, coef-split-head, coef-split-next, const-zero, const-one, const-add, const-mul}
 use Rattle.polynomial.proofs.Induct.{induct}
 
 pub map-neg : {A B : CommRing} (φ : RingMap A B) (a : A .Car) → φ .map (A .neg a) ≡ B .neg (φ .map a)
 map-neg {A} {B} φ a = neg-unique B (φ .map a) (φ .map (A .neg a)) (sym (φ .map-add a (A .neg a)) ∙ ap (φ .map) (A .add-neg a) ∙ φ .map-zero)
+
+pub constants : (A : CommRing) → RingMap A (Poly A)
+constants A = record { map = const A; map-zero = const-zero A; map-one = const-one A; map-add = const-add A; map-mul = const-mul A }
 
 module _ {A B : CommRing} (φ : RingMap A B) (b : B .Car) where
   open CommRing B using (add as _⊕_, mul as _⊗_, zero as 𝟘, one as 𝟙)

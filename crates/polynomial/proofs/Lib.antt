@@ -6,4 +6,5 @@ pub mod Deriv
 pub mod Eval
 pub mod Power
 pub mod Plane
+pub mod Cubic
 pub mod Division

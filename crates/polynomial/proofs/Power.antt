@@ -3,7 +3,7 @@
 --   coef-power-from                the coefficient of Xⁿ·f at n + i is that of f at i
 --   coef-power-below               the coefficient of Xⁿ·f at i is 0 for i below n
 --   coef-power-same coef-power-other           the coefficients of Xⁿ are 1 at n and 0 elsewhere
-use mathlib.Core.Path.{_≡_, refl, sym, _∙_, ap}
+use mathlib.Core.Path.{_≡_, refl, _∙_, ap}
 use mathlib.Core.Logic.{_≢_}
 use Prim.Native.Nat.{ℕ, zero, suc, _+_, _<_}
 use native.Mathlib.Nat.{suc-add, zero-add as nat-zero-add}

@@ -21,7 +21,7 @@ module _ (A : CommRing) where
 
   pub finite-deriv : (a : Series A) → Finite A a → Finite A (deriv-series a)
   unfolding deriv-series
-  finite-deriv a h = ∥∥₁-map h (λ x. (x .0, λ i k. ap (A .mul (numeral (suc i))) (x .1 (suc i) (omega arith)) ∙ mul-zero A _))
+  finite-deriv a h = ∥∥₁-map h (λ x. (x .0, λ i k. ap (A .mul _) (x .1 (suc i) (omega arith)) ∙ mul-zero A _))
 
   unfoldable pub deriv : Poly A .Car → Poly A .Car
   deriv f = poly A (deriv-series (coef A f)) (finite-deriv (coef A f) (finite A f))

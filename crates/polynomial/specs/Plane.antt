@@ -6,7 +6,7 @@
 --   by-x k f, by-y k f the derivatives of f by x and by y
 use mathlib.Core.Path.{_≡_, _∙_, ap}
 use mathlib.Core.Logic.{∥∥₁-map}
-use Prim.Native.Nat.{ℕ, zero, suc}
+use Prim.Native.Nat.{zero}
 use Rattle.algebra.specs.Ring.{CommRing}
 use Rattle.polynomial.specs.Series.{Series}
 use Rattle.polynomial.specs.Bounds.{Finite}
