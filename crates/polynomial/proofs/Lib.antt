@@ -8,3 +8,4 @@ pub mod Power
 pub mod Plane
 pub mod Cubic
 pub mod Division
+pub mod Kernel
