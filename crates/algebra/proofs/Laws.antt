@@ -5,9 +5,9 @@ use Rattle.algebra.specs.Ring.{CommRing}
 
 module _ (R : CommRing) where
   open CommRing R using (Car, zero, one, add as _⊕_, mul as _⊗_, neg as ⊖_, add-comm, add-assoc, add-zero, add-neg, mul-comm, mul-assoc, mul-one, mul-add)
+
   infixl 60 _⊕_
   infixl 70 _⊗_
   infix 80 ⊖_
-
   pub zero-add : (a : Car) → zero ⊕ a ≡ a
   zero-add a = add-comm zero a ∙ add-zero a

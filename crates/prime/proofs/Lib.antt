@@ -3,3 +3,4 @@ pub mod Primes
 pub mod Cofactor
 pub mod Walk
 pub mod Trial
+pub mod Answer
