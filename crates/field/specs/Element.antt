@@ -1,8 +1,10 @@
 -- Laws of the residue of a number: el p carries sums, products and remainders into the ring Z p.
+--   cancel                              additive inverses are unique, in every ring
 --   el-add el-mul el-zero el-one        el p is a map of rings
 --   el-self el-mod                      el p p is zero, el p (n % p) is el p n
 --   el-neg el-sub                       negatives and differences
 --   el-same el-mod-same                 equal remainders give equal residues, and back
+--   el-rest                             from a·b + c = p, el a · −el b = el c
 --   num-lt el-num num-el el-inj         num p x is the one number below p with the residue x
 --   el-pos                              a number from 1 to p − 1 has a residue that is not zero
 use mathlib.Core.Path.{_≡_, refl, sym, _∙_, ap}
@@ -15,7 +17,7 @@ use Rattle.field.specs.Remainder.{mod-mul-mod, mul-mod-mod}
 use Rattle.field.specs.Residue.{Zmod, fin, fin-path, fin-val, modulus, modulus-pos, Z, el, num}
 
 -- a + b = 0 and c + b = 0 make a = c, in every ring
-cancel : (R : CommRing) (a b c : R .Car) → R .add a b ≡ R .zero → R .add c b ≡ R .zero → a ≡ c
+pub cancel : (R : CommRing) (a b c : R .Car) → R .add a b ≡ R .zero → R .add c b ≡ R .zero → a ≡ c
 cancel R a b c e f =
     sym (R .add-zero a)
     ∙ ap (R .add a) (sym f ∙ R .add-comm c b)
@@ -102,7 +104,6 @@ pub Z-discrete : (p : ℕ) → Discrete (Z p .Car)
 unfolding Z Zmod
 Z-discrete p = Fin-discrete (modulus p)
 
--- a · b = −c modulo p, as el a · −el b = el c: from a · b + c = p
 pub el-rest : (p a b c : ℕ) → a * b + c ≡ p → Z p .mul (el p a) (Z p .neg (el p b)) ≡ el p c
 el-rest p a b c e =
     cancel

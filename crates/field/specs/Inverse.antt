@@ -10,7 +10,7 @@ use Rattle.field.specs.Residue.{Z, el, num}
 use Rattle.field.specs.Element.{el-zero, el-one, el-num, el-rest, num-lt, num-el}
 
 -- a number that is not zero
-lt-of-ne : (n : ℕ) → ¬ (n ≡ 0) → 0 < n
+pub lt-of-ne : (n : ℕ) → ¬ (n ≡ 0) → 0 < n
 lt-of-ne zero h = absurd (h refl)
 lt-of-ne (suc n) h = omega arith
 

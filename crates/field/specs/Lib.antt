@@ -3,3 +3,4 @@ pub mod Remainder
 pub mod Residue
 pub mod Element
 pub mod Inverse
+pub mod Contract
