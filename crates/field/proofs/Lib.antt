@@ -1,3 +1,4 @@
 -- Laws that the functions' proofs cite.
 pub mod Sums
 pub mod Products
+pub mod Euclid

@@ -4,7 +4,7 @@
 --   el-self el-mod                      el p p is zero, el p (n % p) is el p n
 --   el-neg el-sub                       negatives and differences
 --   el-same el-mod-same                 equal remainders give equal residues, and back
---   el-rest                             from a·b + c = p, el a · −el b = el c
+--   el-rest                             if a·b + c has the residue zero, el a · −el b = el c
 --   num-lt el-num num-el el-inj         num p x is the one number below p with the residue x
 --   el-pos                              a number from 1 to p − 1 has a residue that is not zero
 use mathlib.Core.Path.{_≡_, refl, sym, _∙_, ap}
@@ -104,7 +104,7 @@ pub Z-discrete : (p : ℕ) → Discrete (Z p .Car)
 unfolding Z Zmod
 Z-discrete p = Fin-discrete (modulus p)
 
-pub el-rest : (p a b c : ℕ) → a * b + c ≡ p → Z p .mul (el p a) (Z p .neg (el p b)) ≡ el p c
+pub el-rest : (p a b c : ℕ) → el p (a * b + c) ≡ Z p .zero → Z p .mul (el p a) (Z p .neg (el p b)) ≡ el p c
 el-rest p a b c e =
     cancel
     (Z p)
@@ -118,4 +118,4 @@ el-rest p a b c e =
     ∙ sym (el-mul p a 0)
     ∙ ap (el p) (omega arith)
     ∙ el-zero p)
-    (sym (el-add p c (a * b)) ∙ ap (el p) (omega arith) ∙ el-self p)
+    (sym (el-add p c (a * b)) ∙ ap (el p) (omega arith) ∙ e)

@@ -7,7 +7,7 @@ use native.Mathlib.Nat.{div-add-mod, mod-lt}
 use native.Mathlib.Omega.{arith}
 use Rattle.algebra.specs.Ring.{CommRing}
 use Rattle.field.specs.Residue.{Z, el, num}
-use Rattle.field.specs.Element.{el-zero, el-one, el-num, el-rest, num-lt, num-el}
+use Rattle.field.specs.Element.{el-zero, el-one, el-num, el-self, el-rest, num-lt, num-el}
 
 -- a number that is not zero
 pub lt-of-ne : (n : ℕ) → ¬ (n ≡ 0) → 0 < n
@@ -42,7 +42,7 @@ module _ (p : ℕ) where
     quotient-mul (suc k) (suc zero) h l b = Z p .mul-one _ ∙ el-one p
     quotient-mul (suc k) (suc (suc n)) h l b =
         sym (Z p .mul-assoc _ _ _)
-        ∙ ap (λ x. Z p .mul x (quotient k (p % suc (suc n)))) (el-rest p (suc (suc n)) (p / suc (suc n)) (p % suc (suc n)) (div-add-mod p (suc (suc n))))
+        ∙ ap (λ x. Z p .mul x (quotient k (p % suc (suc n)))) (el-rest p (suc (suc n)) (p / suc (suc n)) (p % suc (suc n)) (ap (el p) (div-add-mod p (suc (suc n))) ∙ el-self p))
         ∙ quotient-mul k (p % suc (suc n)) (rest (suc (suc n)) (omega arith) b) (omega (arith, mod-lt p {m = suc (suc n)} (omega arith))) (omega (arith, mod-lt p {m = suc (suc n)} (omega arith)))
 
     pub inverse-mul : (x : Z p .Car) → ¬ (x ≡ Z p .zero) → 0 < p → Z p .mul x (inverse x) ≡ Z p .one

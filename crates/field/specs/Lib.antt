@@ -3,4 +3,5 @@ pub mod Remainder
 pub mod Residue
 pub mod Element
 pub mod Inverse
+pub mod Field
 pub mod Contract
