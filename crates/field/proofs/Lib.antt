@@ -2,3 +2,4 @@
 pub mod Sums
 pub mod Products
 pub mod Euclid
+pub mod Number

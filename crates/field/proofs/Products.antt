@@ -1,22 +1,32 @@
 -- What a product and a fused product return, and that their numbers fit.
---   square                  a product of two numbers below 2^32
---   rest-fits               a remainder by a number below 2^32 is below 2^32
+--   product-fits            a·b fits 64 bits if a and b fit 32
+--   product-sum-fits        and so does a·b + c
+--   rest-fits               a remainder by a number of 32 bits fits 32 bits
 --   product                 a·b
 --   product-sum             a·b + c
 --   product-difference      c − a·b
+--   negated                 a·(p − b) has the residue of −(a·b)
 use mathlib.Core.Path.{_≡_, refl, sym, _∙_, ap}
 use Prim.Native.Nat.{ℕ, _+_, _*_, _-_, _%_, _≤_, _<_}
 use native.Mathlib.Nat.{mod-lt, mul-add, mul-le-mul}
 use native.Mathlib.Omega.{arith}
+use mir.Val.{Fits}
+use mir.Syntax.{w32, w64}
 use Rattle.algebra.specs.Ring.{CommRing}
 use Rattle.field.specs.Residue.{Z, el}
 use Rattle.field.specs.Element.{cancel, el-add, el-mul, el-mod, el-neg, el-zero, el-self}
 use Rattle.field.specs.Contract.{Is}
 
-pub square : (a b : ℕ) → a ≤ 4294967295 → b ≤ 4294967295 → a * b ≤ 18446744065119617025
-square a b ha hb = mul-le-mul ha hb
+square : (a b : ℕ) → a < 4294967296 → b < 4294967296 → a * b ≤ 18446744065119617025
+square a b ha hb = mul-le-mul {n₂ = 4294967295} {m₂ = 4294967295} (omega arith) (omega arith)
 
-pub rest-fits : (n p : ℕ) → 0 < p → p < 4294967296 → n % p < 4294967296
+pub product-fits : (a b : ℕ) → a < 4294967296 → b < 4294967296 → Fits w64 (a * b)
+product-fits a b ha hb = omega (arith, square a b ha hb)
+
+pub product-sum-fits : (a b c : ℕ) → a < 4294967296 → b < 4294967296 → c < 4294967296 → Fits w64 (a * b + c)
+product-sum-fits a b c ha hb hc = omega (arith, square a b ha hb)
+
+pub rest-fits : (n p : ℕ) → 0 < p → p < 4294967296 → Fits w32 (n % p)
 rest-fits n p h l = omega (arith, mod-lt n {m = p} h)
 
 -- the remainder of n has the residue of n
@@ -33,7 +43,7 @@ whole : (p a b : ℕ) → b ≤ p → a * (p - b) + a * b ≡ a * p
 whole p a b h = sym (mul-add a (p - b) b) ∙ ap (λ (n : ℕ). a * n) (omega arith)
 
 -- a·(p − b) is −(a·b): added to a·b it gives a·p
-negated : (p a b : ℕ) → b ≤ p → el p (a * (p - b)) ≡ Z p .neg (Z p .mul (el p a) (el p b))
+pub negated : (p a b : ℕ) → b ≤ p → el p (a * (p - b)) ≡ Z p .neg (Z p .mul (el p a) (el p b))
 negated p a b h =
     cancel
     (Z p)

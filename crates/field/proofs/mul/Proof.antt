@@ -1,19 +1,18 @@
 -- `field::mul` meets its contract: the remainder has the residue of the product.
-use Prim.Native.Nat.{_*_}
 use native.Mathlib.Omega.{arith}
-use Rattle.field.proofs.Products.{square, rest-fits, product}
+use Rattle.field.proofs.Products.{product-fits, rest-fits, product}
 use borrow.Author.Needs.{needs}
 use Rattle.field.proofs.mul.Statement.{statement}
 use Rattle.field.proofs.mul.Tie as tie
 
 mul-result : tie.Need-mul-result
-mul-result c = omega (arith, square (c .args .a) (c .args .b) (omega arith) (omega arith))
+mul-result c = product-fits _ _ (omega arith) (omega arith)
 
 rem-result : tie.Need-rem-result
 rem-result c = search needs
 
 cast-result : tie.Need-cast-result
-cast-result c = omega (arith, rest-fits (c .args .a * c .args .b) (c .args .p) (omega arith) (omega arith))
+cast-result c = rest-fits _ _ (omega arith) (omega arith)
 
 returns : tie.Need-returns
 returns c = product _ _ _ (omega arith)
