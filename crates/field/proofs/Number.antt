@@ -2,15 +2,16 @@
 --   is-number                       r = n % p if r stands for el n
 --   sum-number difference-number negative-number product-number product-sum-number product-difference-number
 --   inverse-number                  r = n if a·n % p = 1
+--   inverse-zero-number             r = 0 if a = 0
 use mathlib.Core.Path.{_≡_, refl, sym, _∙_, ap}
 use Prim.Native.Nat.{ℕ, _+_, _*_, _-_, _%_, _≤_, _<_}
-use native.Mathlib.Nat.{mod-lt, mod-eq-of-lt}
+use native.Mathlib.Nat.{mod-lt, mod-eq-of-lt, zero-mod}
 use native.Mathlib.Omega.{arith}
 use Rattle.algebra.specs.Ring.{CommRing}
 use Rattle.prime.specs.Prime.{Prime}
 use Rattle.field.specs.Residue.{Z, el}
-use Rattle.field.specs.Element.{el-add, el-mul, el-one, el-neg, el-pos, el-same, el-inj, el-mod}
-use Rattle.field.specs.Inverse.{inverse}
+use Rattle.field.specs.Element.{el-add, el-mul, el-zero, el-one, el-neg, el-pos, el-same, el-inj, el-mod}
+use Rattle.field.specs.Inverse.{inverse, inverse-zero}
 use Rattle.field.specs.Field.{prime-large, inverse-unique}
 use Rattle.field.specs.Contract.{Is}
 use Rattle.field.proofs.Products.{negated}
@@ -44,3 +45,8 @@ module _ (p r a b c : ℕ) where
 
 pub inverse-number : (p r a n : ℕ) → Prime p → 0 < a → a < p → n < p → a * n % p ≡ 1 → Is p r (inverse p (el p a)) → r ≡ n
 inverse-number p r a n h pos la ln e i = stands p r n _ i (inverse-unique p h (el p a) (el p n) (el-pos p a pos la) (sym (el-mul p a n) ∙ el-same p (a * n) 1 (e ∙ sym (mod-eq-of-lt (prime-large p h))) ∙ el-one p)) ∙ mod-eq-of-lt ln
+
+pub inverse-zero-number : (p r : ℕ) → Prime p → Is p r (inverse p (el p 0)) → r ≡ 0
+inverse-zero-number p r h i =
+    let pos : 0 < p = omega (arith, prime-large p h) in
+    stands p r 0 _ i (el-zero p ∙ sym (inverse-zero p pos) ∙ ap (inverse p) (sym (el-zero p))) ∙ zero-mod p
