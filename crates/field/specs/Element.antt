@@ -6,6 +6,8 @@
 --   el-same el-mod-same                 equal remainders give equal residues, and back
 --   el-rest                             if a·b + c has the residue zero, el a · −el b = el c
 --   num-lt el-num num-el el-inj         num p x is the one number below p with the residue x
+--   num-mod                             num p (el p n) is n % p
+--   Z-discrete                          equality of residues is decidable
 --   el-pos                              a number from 1 to p − 1 has a residue that is not zero
 use mathlib.Core.Path.{_≡_, refl, sym, _∙_, ap}
 use Prim.Native.Nat.{ℕ, zero, suc, pred, _+_, _*_, _-_, _%_, _≤_, _<_}

@@ -1,6 +1,6 @@
 -- Laws of remainders that the ring of residues is built from. Sums are the library's; products are here.
---   mul-mod-left       (n % m · k) % m = (n · k) % m
---   mul-mod-right      (n · (k % m)) % m = (n · k) % m
+--   mod-mul-mod        (n % m · k) % m = (n · k) % m
+--   mul-mod-mod        (n · (k % m)) % m = (n · k) % m
 use mathlib.Core.Path.{_≡_, refl, sym, _∙_, ap}
 use Prim.Native.Nat.{ℕ, _+_, _*_, _/_, _%_}
 use native.Mathlib.Nat.{div-add-mod', mul-comm, mul-add-mod-self-right}
