@@ -1,7 +1,8 @@
 -- A based space stays based when one element is added, or all multiples of an element.
 --   sum-lead           the lead of u + w is one of u's or w's, if U and W share no lead
 --   Plus U v           u + a·v, u in U and a constant
---   rest               v + u for some u of U is zero or has a pole number that U lacks
+--   plus-old, plus-new     it holds U and v
+--   plus-space         it is a space
 --   plus-based         Plus U v is based if U is
 --   divide             r = f·q + t with t below d + 6
 --   extend-based       Extend I g is based for a based ideal I with a lead

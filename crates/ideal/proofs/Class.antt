@@ -1,6 +1,7 @@
 -- Equivalent ideals: a·I = b·J for nonzero a and b. Their stars are the same ideal.
 --   equivalent-same    sets with the same elements are equivalent
 --   equivalent-refl, equivalent-sym, equivalent-trans
+--   equivalent-member  a·g = b·h with h in I gives g in J, for a·J = b·I
 --   equivalent-ideal   what is equivalent to an ideal is an ideal
 --   equivalent-least   … and has a least element if the ideal has one
 --   star-class         (f : I) = (f′ : J) for equivalent I and J with the least elements f and f′

@@ -3,9 +3,12 @@
 --   extend-ideal           … is an ideal
 --   generated-ideal        Generated gs is an ideal
 --   generated-each         it holds each element of gs
+--   generated-first, generated-rest    … and what the rest of gs generates
 --   generated-in           an ideal that holds each element of gs holds it
 --   generated-same         two lists that generate each other's elements generate the same ideal
 --   products gs hs         the products of one element from each list
+--   products-each          they are in I·J if gs is in I and hs in J
+--   products-source        what holds of each of them holds of each g·h
 --   generated-product      they generate the product of the ideals of gs and hs
 use mathlib.Core.Path.{_≡_, refl, sym, _∙_, ap, subst}
 use mathlib.Core.List.{List, [], _∷_, _++_, map}

@@ -1,13 +1,16 @@
 -- Spaces over the constants, their leads, and the lowering of an element by elements of a space.
 --   IsSpace I          I holds zero and is closed under sums and constant multiples
 --   ideal-space        an ideal is a space
+--   space-neg          a space is closed under negatives
 --   Lead I n           an element of I with pole number n
 --   Based I            for each n it is decidable whether I has a lead n
 --   lead-monic         the element of a lead can be taken monic
 --   lowering           if I ⊆ I′ and every lead of I′ is one of I, then I′ ⊆ I
 --   least-lead         a based space with a lead has a lowest one
 --   least              a based space with a lead has a least element
---   least-unique       … and only one
+--   least-unique       … and only one; least-pole: with one pole number
+--   least-below        an element of J below that pole number is zero
+--   least-same         sets with the same elements have the same least element
 --   least-multiple     an element of J with the pole number of the least is a constant multiple of it
 --   based-same         sets with the same elements are based together
 use mathlib.Core.Path.{_≡_, sym, _∙_, subst}

@@ -1,5 +1,6 @@
 -- The theory of reduced ideals over a ring with pole numbers.
 pub mod Rules
+pub mod Same
 pub mod Gaps
 pub mod Degree
 pub mod Leads

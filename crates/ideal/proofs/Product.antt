@@ -2,13 +2,16 @@
 --   product-of             a·b is in I·J for a in I and b in J
 --   product-in             an ideal that holds each a·b holds I·J
 --   product-ideal          I·J is an ideal if I is
---   product-map            I·J grows with I and J
+--   product-sum            I·J is closed under sums
+--   product-times          … and under multiples by r if I is
+--   product-map, product-same      I·J grows with I and J
 --   product-comm, product-assoc, product-unit
+--   taken-ideal            the elements that k takes into an ideal are an ideal
 --   productof-ideal        the product of a list of ideals is an ideal
 --   productof-append       the product of two lists, one after the other
 --   productof-swap         two neighbours may change places
 --   productof-one          the product of one ideal
---   product-equivalent     I ~ I′ and J ~ J′ give I·J ~ I′·J′
+--   product-equivalent     I ~ I′ and J ~ J′ give I·J ~ I′·J′; product-equivalent-left and -right: for one factor
 --   productof-equivalent   … and so for lists
 --   productof-join         if A ~ ∏ xs and B ~ ∏ ys, then A·B ~ ∏ (xs ++ ys)
 use mathlib.Core.Path.{_≡_, refl, sym, _∙_, ap, subst}

@@ -1,6 +1,7 @@
 -- Rearrangements in a commutative ring that the theory of ideals uses.
 --   move               a + b = c gives a = c − b
 --   unscale            a·b = 1 gives (a·f)·(b·q) = f·q
+--   neg-second … neg-third-more    cancelling at a distance, rules of `ring`
 --   ring               algebra's rule set for simp, with cancelling at a greater distance
 use mathlib.Core.Path.{_≡_, sym, _∙_, ap}
 use Rattle.algebra.specs.Ring.{CommRing}

@@ -1,14 +1,17 @@
 -- Spans over k[x], where x is the monomial of pole number 3, y that of pole number 4, and k the constants.
 --   InX p                  p is a polynomial in x: zero, or c + x·q with a constant c and q in k[x]
+--   inx-sum, inx-scale, inx-x, inx-mul, inx-constant, inx-one    k[x] is closed under sums, products and constants
+--   three-pole, four-pole  3 and 4 are pole numbers
 --   inx-pole               the pole number of p is a multiple of 3
---   x-power i              xⁱ; inx-monomial: c·xⁱ is in k[x]
+--   x-power i              xⁱ; x-power-pole, inx-power, inx-monomial: its pole number is 3·i, and c·xⁱ is in k[x]
 --   Span bs                p₁·b₁ + … + pₙ·bₙ with the pᵢ in k[x]
---   span-space             it is a space, and closed under multiples from k[x]
---   span-each              it holds each b
---   span-in                a space that is closed under x and holds each b holds the span
---   span-same              two lists that span each other's elements have the same span
---   InXY r                 r is a polynomial in x and y
---   inxy-all               so is every element of R
+--   span-nil, span-sum, span-times, span-x, span-space    it is a space, closed under multiples from k[x]
+--   span-first, span-rest, span-each    it holds each b
+--   inx-in, span-in        a space that is closed under x and holds each b holds the span
+--   span-within, span-same the span of bs is in that of cs if each b is; two lists with the same span
+--   x-lead                 a set that is closed under x has the leads d + 3·i if it has d
+--   InXY r                 r is a polynomial in x and y; inxy-all: so is every element of R
+--   xy-times, xy-ideal     a space that is closed under x and y is an ideal
 --   span-ideal             Span bs is an ideal if it holds y·b for each b
 --   span-generated         … and then it is the ideal that bs generates
 --   span-product           the product of Span bs and Span cs is the span of the products

@@ -9,17 +9,17 @@
 --   reduced-exists-small   a based ideal with a nonzero element has a reduced ideal, with a small footprint and equivalent to it
 --   whole-footprint        the whole ring has a small footprint
 use mathlib.Core.Path.{subst}
-use mathlib.Core.Logic.{Iff·rfl}
 use Rattle.algebra.specs.Ring.{CommRing}
 use Rattle.ideal.specs.Ideal.{IsIdeal, Colon, SameIdeal, Equivalent}
 use Rattle.ideal.specs.Poles.{Poles}
 use Rattle.ideal.specs.Reduced.{Least, IsStar, IsReduced}
+use Rattle.ideal.proofs.Same.{same-refl, same-sym, same-trans}
 use Rattle.ideal.proofs.Gaps.{pole-large}
 use Rattle.ideal.proofs.Degree.{mono-has, monic-pole}
 use Rattle.ideal.proofs.Leads.{ideal-space, least, least-same, least-unique}
 use Rattle.ideal.proofs.Colon.{colon-same, colon-colon}
 use Rattle.ideal.proofs.Class.{equivalent-ideal, equivalent-least, equivalent-trans, star-class}
-use Rattle.ideal.proofs.Reduced.{SmallFootprint, same-sym, same-trans, footprint-same, footprint-least, star-footprint, equivalent-reduced, reduced-exists, reduced-footprint, reduced-equivalent}
+use Rattle.ideal.proofs.Reduced.{SmallFootprint, footprint-same, footprint-least, star-footprint, equivalent-reduced, reduced-exists, reduced-footprint, reduced-equivalent}
 use Rattle.ideal.proofs.Finite.{BasedIdeal, whole-based}
 
 module _ {R : CommRing} (P : Poles R) where
@@ -29,29 +29,29 @@ module _ {R : CommRing} (P : Poles R) where
   star-exists {J} b = go (least P (ideal-space P (b .ideal)) (b .based) (b .lead))
     where
       go : (f : Car) × Least P J f → (f : Car) × IsStar P J (Colon R f J)
-      go (f, l) = (f, record { f = f; least = l; same = λ g. Iff·rfl })
+      go (f, l) = (f, record { f = f; least = l; same = same-refl R (Colon R f J) })
 
   pub star-unique : {J K K′ : Car → Type 0} → IsIdeal R J → IsStar P J K → IsStar P J K′ → SameIdeal R K K′
-  star-unique {J} {K} {K′} i s s′ = same-trans P (s .same) (subst (λ t. SameIdeal R (Colon R t J) K′) (least-unique P (ideal-space P i) (s′ .least) (s .least)) (same-sym P (s′ .same)))
+  star-unique {J} {K} {K′} i s s′ = same-trans R (s .same) (subst (λ t. SameIdeal R (Colon R t J) K′) (least-unique P (ideal-space P i) (s′ .least) (s .least)) (same-sym R (s′ .same)))
 
   pub star-small : {J K : Car → Type 0} → BasedIdeal P J → IsStar P J K → SmallFootprint P K
-  star-small b s = footprint-same P (same-sym P (s .same)) (star-footprint P (b .ideal) (b .based) (s .least))
+  star-small b s = footprint-same P (same-sym R (s .same)) (star-footprint P (b .ideal) (b .based) (s .least))
 
   pub star-back : {A K : Car → Type 0} → SmallFootprint P A → IsStar P A K → IsStar P K A
   star-back a s = record {
     f = s .f;
-    least = least-same P (same-sym P (s .same)) (footprint-least P a (s .least));
-    same = same-trans P (same-sym P (colon-colon P (monic-pole P (s .least .monic)) (a .ideal) (a .based) (s .least .member))) (colon-same R (s .f) (same-sym P (s .same)));
+    least = least-same P (same-sym R (s .same)) (footprint-least P a (s .least));
+    same = same-trans R (same-sym R (colon-colon P (monic-pole P (s .least .monic)) (a .ideal) (a .based) (s .least .member))) (colon-same R (s .f) (same-sym R (s .same)));
   }
 
   pub star-equivalent : {I J K K′ : Car → Type 0} → IsIdeal R I → IsIdeal R J → Equivalent R I J → IsStar P I K → IsStar P J K′ → SameIdeal R K K′
-  star-equivalent i j e s s′ = same-trans P (s .same) (same-trans P (star-class P i j e (s .least) (s′ .least)) (same-sym P (s′ .same)))
+  star-equivalent i j e s s′ = same-trans R (s .same) (same-trans R (star-class P i j e (s .least) (s′ .least)) (same-sym R (s′ .same)))
 
   pub star-transfer : {G J K : Car → Type 0} → IsIdeal R J → Equivalent R G J → IsStar P J K → IsStar P G K
   star-transfer {G} {J} {K} j e s = go (equivalent-least P j e (s .least))
     where
       go : (f : Car) × Least P G f → IsStar P G K
-      go (f, l) = record { f = f; least = l; same = same-trans P (s .same) (same-sym P (star-class P (equivalent-ideal P e j) j e l (s .least))) }
+      go (f, l) = record { f = f; least = l; same = same-trans R (s .same) (same-sym R (star-class P (equivalent-ideal P e j) j e l (s .least))) }
 
   pub reduced-transfer : {G J A : Car → Type 0} → BasedIdeal P J → Equivalent R G J → IsReduced P J A → IsReduced P G A
   reduced-transfer b e r = equivalent-reduced P (reduced-footprint P (b .ideal) (b .based) r) (equivalent-trans P e (reduced-equivalent P (b .ideal) (b .based) r))

@@ -1,5 +1,6 @@
 -- The leads of a span over k[x] of three elements whose pole numbers lie in the three classes modulo 3.
 --   Reach d n          d ≤ n, and n and d lie in the same class modulo 3
+--   reach-dec          … is decidable
 --   span-reach         b in the span, of pole number d: the span has each lead that d reaches
 --   span-step          one more element b adds the leads that its pole number reaches
 --   triple-lead        each lead of the span is reached by one of the three pole numbers
