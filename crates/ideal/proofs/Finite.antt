@@ -68,7 +68,8 @@ module _ {R : CommRing} (P : Poles R) where
   generated-lead [] = inl (λ h e. e)
   generated-lead (g ∷ gs) = go (degree P g) (generated-lead gs)
     where
-      go : (g ≡ zero) ⊎ ((m : ℕ) × HasPole P g m) → ((h : Car) → Generated R gs h → h ≡ zero) ⊎ ((n : ℕ) × Lead P (Generated R gs) n) → ((h : Car) → Generated R (g ∷ gs) h → h ≡ zero) ⊎ ((n : ℕ) × Lead P (Generated R (g ∷ gs)) n)
+      go : (g ≡ zero) ⊎ ((m : ℕ) × HasPole P g m) → ((h : Car) → Generated R gs h → h ≡ zero) ⊎ ((n : ℕ) × Lead P (Generated R gs) n)
+          → ((h : Car) → Generated R (g ∷ gs) h → h ≡ zero) ⊎ ((n : ℕ) × Lead P (Generated R (g ∷ gs)) n)
       go (inr (m, p)) b = inr (m, (g, generated-first R g gs, p))
       go (inl z) (inl none) = inl (λ h (r, s, m, e). e ∙ rw (z, none s m) (simp ring))
       go (inl z) (inr (n, (u, m, p))) = inr (n, (u, generated-rest R g gs u m, p))
@@ -80,7 +81,8 @@ module _ {R : CommRing} (P : Poles R) where
       alone : ((h : Car) → Generated R gs h → h ≡ zero) → SameIdeal R (Multiple R g) (Generated R (g ∷ gs))
       alone none h = (λ (q, e). (q, zero, generated-ideal R gs .nil, e ∙ simp ring), λ (r, s, m, e). (r, e ∙ rw (none s m) (simp ring)))
 
-      go : Based P (Generated R gs) → ((h : Car) → Generated R gs h → h ≡ zero) ⊎ ((n : ℕ) × Lead P (Generated R gs) n) → (g ≡ zero) ⊎ ((m : ℕ) × HasPole P g m) → Based P (Generated R (g ∷ gs))
+      go : Based P (Generated R gs) → ((h : Car) → Generated R gs h → h ≡ zero) ⊎ ((n : ℕ) × Lead P (Generated R gs) n)
+          → (g ≡ zero) ⊎ ((m : ℕ) × HasPole P g m) → Based P (Generated R (g ∷ gs))
       go base (inr (k, l)) b = extend-based P g (generated-ideal R gs) base l
       go base (inl none) (inr (m, p)) = based-same P (alone none) (multiple-based p)
       go base (inl none) (inl z) = λ n. no (λ (u, (r, s, m, e), p). pole-nonzero P p (e ∙ rw (z, none s m) (simp ring)))
@@ -93,7 +95,8 @@ module _ {R : CommRing} (P : Poles R) where
   collect ℕ.zero b = ([], tt, λ m h. absurd (omega arith))
   collect (suc l) {I} b = go (collect l b) (b .based l)
     where
-      go : (gs : List Car) × Every I gs × ((m : ℕ) → m < l → Lead P I m → Lead P (Generated R gs) m) → Dec (Lead P I l) → (gs : List Car) × Every I gs × ((m : ℕ) → m < suc l → Lead P I m → Lead P (Generated R gs) m)
+      go : (gs : List Car) × Every I gs × ((m : ℕ) → m < l → Lead P I m → Lead P (Generated R gs) m) → Dec (Lead P I l)
+          → (gs : List Car) × Every I gs × ((m : ℕ) → m < suc l → Lead P I m → Lead P (Generated R gs) m)
       go (gs, ms, have) (no none) = (gs, ms, λ m h lead. at m h lead (ℕ-discrete m l))
         where
           at : (m : ℕ) → m < suc l → Lead P I m → Dec (m ≡ l) → Lead P (Generated R gs) m
@@ -111,8 +114,10 @@ module _ {R : CommRing} (P : Poles R) where
   pub generators : {I : Car → Type 0} → BasedIdeal I → (gs : List Car) × SameIdeal R I (Generated R gs)
   generators {I} b = go (b .lead) (collect (suc (b .pole + largest-gap)) b)
     where
-      go : Lead P I (b .pole) → (gs : List Car) × Every I gs × ((m : ℕ) → m < suc (b .pole + largest-gap) → Lead P I m → Lead P (Generated R gs) m) → (gs : List Car) × SameIdeal R I (Generated R gs)
-      go (f, mf, pf) (gs, ms, have) = (f ∷ gs, λ h. (lowering P (ideal-space P (generated-ideal R (f ∷ gs))) (ideal-space P (b .ideal)) inside (λ m lead. at m lead (decLe (suc m) (suc (b .pole + largest-gap)))) h, inside h))
+      go : Lead P I (b .pole) → (gs : List Car) × Every I gs × ((m : ℕ) → m < suc (b .pole + largest-gap) → Lead P I m → Lead P (Generated R gs) m)
+          → (gs : List Car) × SameIdeal R I (Generated R gs)
+      go (f, mf, pf) (gs, ms, have) =
+          (f ∷ gs, λ h. (lowering P (ideal-space P (generated-ideal R (f ∷ gs))) (ideal-space P (b .ideal)) inside (λ m lead. at m lead (decLe (suc m) (suc (b .pole + largest-gap)))) h, inside h))
         where
           inside : (h : Car) → Generated R (f ∷ gs) h → I h
           inside = generated-in R (b .ideal) (f ∷ gs) (mf, ms)
@@ -122,7 +127,8 @@ module _ {R : CommRing} (P : Poles R) where
 
           at : (m : ℕ) → Lead P I m → Dec (m < suc (b .pole + largest-gap)) → Lead P (Generated R (f ∷ gs)) m
           at m lead (yes h) = more-leads (have m h lead)
-          at m lead (no h) = (mono (m - b .pole) ⊗ f, generated-ideal R (f ∷ gs) .times (mono (m - b .pole)) (generated-first R f gs), pole-at P (omega arith) (pole-mul P (mono-has P {n = m - b .pole} (pole-large (omega arith))) pf))
+          at m lead (no h) =
+              (mono (m - b .pole) ⊗ f, generated-ideal R (f ∷ gs) .times (mono (m - b .pole)) (generated-first R f gs), pole-at P (omega arith) (pole-mul P (mono-has P {n = m - b .pole} (pole-large (omega arith))) pf))
 
   pub product-based : {I J : Car → Type 0} → BasedIdeal I → BasedIdeal J → BasedIdeal (Product R I J)
   product-based {I} {J} b c = go (generators b) (generators c)

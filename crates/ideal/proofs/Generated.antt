@@ -71,21 +71,29 @@ module _ (R : CommRing) where
 
   pub products-each : (I J : Car → Type 0) (gs hs : List Car) → Every I gs → Every J hs → Every (Product R I J) (products gs hs)
   products-each I J [] hs _ ns = tt
-  products-each I J (g ∷ gs) hs (m, ms) ns = every-append (Product R I J) (map (λ h. g ⊗ h) hs) (products gs hs) (every-image (Product R I J) (λ h. g ⊗ h) hs (every-map (λ h n. product-of R m n) hs ns)) (products-each I J gs hs ms ns)
+  products-each I J (g ∷ gs) hs (m, ms) ns =
+      every-append (Product R I J) (map (λ h. g ⊗ h) hs) (products gs hs)
+      (every-image (Product R I J) (λ h. g ⊗ h) hs (every-map (λ h n. product-of R m n) hs ns)) (products-each I J gs hs ms ns)
 
   pub products-source : (T : Car → Type 0) (gs hs : List Car) → Every T (products gs hs) → Every (λ g. Every (λ h. T (g ⊗ h)) hs) gs
   products-source T [] hs _ = tt
-  products-source T (g ∷ gs) hs ms = (every-source T (λ h. g ⊗ h) hs (every-left T (map (λ h. g ⊗ h) hs) (products gs hs) ms), products-source T gs hs (every-right T (map (λ h. g ⊗ h) hs) (products gs hs) ms))
+  products-source T (g ∷ gs) hs ms =
+      (every-source T (λ h. g ⊗ h) hs (every-left T (map (λ h. g ⊗ h) hs) (products gs hs) ms), products-source T gs hs (every-right T (map (λ h. g ⊗ h) hs) (products gs hs) ms))
 
   pub generated-product : (gs hs : List Car) → SameIdeal R (Product R (Generated R gs) (Generated R hs)) (Generated R (products gs hs))
-  generated-product gs hs g = (product-in R t each, generated-in (product-ideal R (generated-ideal gs)) (products gs hs) (products-each (Generated R gs) (Generated R hs) gs hs (generated-each gs) (generated-each hs)) g)
+  generated-product gs hs g =
+      (product-in R t each, generated-in (product-ideal R (generated-ideal gs)) (products gs hs) (products-each (Generated R gs) (Generated R hs) gs hs (generated-each gs) (generated-each hs)) g)
     where
       t : IsIdeal R (Generated R (products gs hs))
       t = generated-ideal (products gs hs)
 
       -- g·b for g of the list gs, then a·b for a in its ideal
-      row : (b : Car) → Generated R hs b → Every (λ g. Every (λ h. Generated R (products gs hs) (g ⊗ h)) hs) gs → Every (λ g. Generated R (products gs hs) (g ⊗ b)) gs
-      row b mb = every-map (λ g ms. subst (Generated R (products gs hs)) (R .mul-comm b g) (generated-in (taken-ideal R g t) hs (every-map (λ h m. subst (Generated R (products gs hs)) (R .mul-comm g h) m) hs ms) b mb)) gs
+      row : (b : Car) → Generated R hs b → Every (λ g. Every (λ h. Generated R (products gs hs) (g ⊗ h)) hs) gs
+          → Every (λ g. Generated R (products gs hs) (g ⊗ b)) gs
+      row b mb =
+          every-map
+          (λ g ms. subst (Generated R (products gs hs)) (R .mul-comm b g) (generated-in (taken-ideal R g t) hs (every-map (λ h m. subst (Generated R (products gs hs)) (R .mul-comm g h) m) hs ms) b mb)) gs
 
       each : (a b : Car) → Generated R gs a → Generated R hs b → Generated R (products gs hs) (a ⊗ b)
-      each a b ma mb = generated-in (taken-ideal R b t) gs (row b mb (products-source (Generated R (products gs hs)) gs hs (generated-each (products gs hs)))) a ma
+      each a b ma mb =
+          generated-in (taken-ideal R b t) gs (row b mb (products-source (Generated R (products gs hs)) gs hs (generated-each (products gs hs)))) a ma

@@ -16,7 +16,8 @@ use Rattle.ideal.proofs.Colon.{Taken, colon-ideal, colon-not, ker-leads
 module _ {R : CommRing} (P : Poles R) {f : R .Car} {d : ℕ} (pf : HasPole P f d) {I : R .Car → Type 0} where
   open CommRing R using (Car)
 
-  pub recognise : {U : Car → Type 0} → IsSpace P U → Based P U → ((g : Car) → U g → Colon R f I g) → ((n : ℕ) → IsPole n → ¬ Lead P U n → (m : ℕ) × Lead P I m × (n + m ≡ d + largest-gap)) → SameIdeal R U (Colon R f I)
+  pub recognise : {U : Car → Type 0} → IsSpace P U → Based P U → ((g : Car) → U g → Colon R f I g)
+      → ((n : ℕ) → IsPole n → ¬ Lead P U n → (m : ℕ) × Lead P I m × (n + m ≡ d + largest-gap)) → SameIdeal R U (Colon R f I)
   recognise {U} s base in′ met g = (in′ g, lowering P s (ideal-space P (colon-ideal R f I)) in′ leads g)
     where
       at : (n : ℕ) → Lead P (Colon R f I) n → Dec (Lead P U n) → Lead P U n
@@ -29,7 +30,8 @@ module _ {R : CommRing} (P : Poles R) {f : R .Car} {d : ℕ} (pf : HasPole P f d
       leads : (n : ℕ) → Lead P (Colon R f I) n → Lead P U n
       leads n l = at n l (base n)
 
-  pub colon-member : IsIdeal R I → I f → ((h : Car) (n : ℕ) → I h → HasPole P h n → d ≤ n) → (g : Car) → ((m : ℕ) → IsGap m → (¬ Lead P I (d + m)) ⊎ Taken P f d I g (d + m)) → Colon R f I g
+  pub colon-member : IsIdeal R I → I f → ((h : Car) (n : ℕ) → I h → HasPole P h n → d ≤ n) → (g : Car)
+      → ((m : ℕ) → IsGap m → (¬ Lead P I (d + m)) ⊎ Taken P f d I g (d + m)) → Colon R f I g
   colon-member i mf lowest g near = ker-leads P pf i (λ n lead. go n lead (gap-dec (n - d)))
     where
       at : (n : ℕ) → Lead P I n → d ≤ n → (¬ Lead P I (d + (n - d))) ⊎ Taken P f d I g (d + (n - d)) → Taken P f d I g n

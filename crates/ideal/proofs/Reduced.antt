@@ -98,7 +98,9 @@ module _ {R : CommRing} (P : Poles R) where
   reduced-self {A} s = equivalent-reduced s (equivalent-refl P A)
 
   pub reduced-unique : {J A A′ : Car → Type 0} → IsIdeal R J → IsReduced P J A → IsReduced P J A′ → SameIdeal R A A′
-  reduced-unique {J} {A} {A′} i r r′ = same-trans R (r .same) (same-trans R (subst (λ t. SameIdeal R (Colon R (r .f′) (Colon R (r .f) J)) (Colon R t (Colon R (r′ .f) J))) e′ (colon-same R (r .f′) star)) (same-sym R (r′ .same)))
+  reduced-unique {J} {A} {A′} i r r′ =
+      same-trans R (r .same)
+      (same-trans R (subst (λ t. SameIdeal R (Colon R (r .f′) (Colon R (r .f) J)) (Colon R t (Colon R (r′ .f) J))) e′ (colon-same R (r .f′) star)) (same-sym R (r′ .same)))
     where
       star : SameIdeal R (Colon R (r .f) J) (Colon R (r′ .f) J)
       star = subst (λ t. SameIdeal R (Colon R (r .f) J) (Colon R t J)) (least-unique P (ideal-space P i) (r .least) (r′ .least)) (same-refl R (Colon R (r .f) J))

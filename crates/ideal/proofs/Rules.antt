@@ -17,7 +17,8 @@ module _ (R : CommRing) where
   move {a} {b} {c} e = sym (add-zero a) ∙ ap (λ t. a ⊕ t) (sym (add-neg b)) ∙ sym (add-assoc a b (⊖ b)) ∙ ap (λ t. t ⊕ ⊖ b) e
 
   pub unscale : (a b f q : Car) → a ⊗ b ≡ one → (a ⊗ f) ⊗ (b ⊗ q) ≡ f ⊗ q
-  unscale a b f q e = mul-assoc a f (b ⊗ q) ∙ ap (λ t. a ⊗ t) (laws.mul-left-comm R f b q) ∙ sym (mul-assoc a b (f ⊗ q)) ∙ ap (λ t. t ⊗ (f ⊗ q)) e ∙ laws.one-mul R (f ⊗ q)
+  unscale a b f q e =
+      mul-assoc a f (b ⊗ q) ∙ ap (λ t. a ⊗ t) (laws.mul-left-comm R f b q) ∙ sym (mul-assoc a b (f ⊗ q)) ∙ ap (λ t. t ⊗ (f ⊗ q)) e ∙ laws.one-mul R (f ⊗ q)
 
   pub neg-second : (a b : Car) → ⊖ a ⊕ (b ⊕ a) ≡ b
   neg-second a b = laws.add-left-comm R (⊖ a) b a ∙ ap (λ t. b ⊕ t) (laws.neg-add R a) ∙ add-zero b

@@ -88,7 +88,8 @@ module _ {R : CommRing} (P : Poles R) where
   inx-pole {p} {n} (horner {c} {q} b i e) ph = go (λ m. inx-pole i) (degree P q)
     where
       next : {m : ℕ} → HasPole P q m → (j : ℕ) × (m ≡ 3 * j) → (j : ℕ) × (n ≡ 3 * j)
-      next {m} pq (j, e′) = (suc j, omega (arith, pole-unique P ph (pole-cong P (laws.plus-comm R (x ⊗ q) c ∙ sym e) (pole-add P (pole-mul P (mono-has P three-pole) pq) (below-mono (omega arith) b)))))
+      next {m} pq (j, e′) =
+          (suc j, omega (arith, pole-unique P ph (pole-cong P (laws.plus-comm R (x ⊗ q) c ∙ sym e) (pole-add P (pole-mul P (mono-has P three-pole) pq) (below-mono (omega arith) b)))))
 
       go : ((m : ℕ) → HasPole P q m → (j : ℕ) × (m ≡ 3 * j)) → (q ≡ zero) ⊎ ((m : ℕ) × HasPole P q m) → (j : ℕ) × (n ≡ 3 * j)
       go ih (inl z) = (0, omega (arith, pole-below P (pole-cong P (e ∙ rw z (simp ring)) ph) b))
@@ -208,11 +209,15 @@ module _ {R : CommRing} (P : Poles R) where
       go (no a) (no b) = up 8 (y-lead 4 (y-lead 0 unit)) (omega (arith, pole-apart pn))
 
   pub inxy-all : (r : Car) → InXY r
-  inxy-all r = lowering P {I′ = λ _. Unit} inxy-space (record { nil = tt; sum = λ m n. tt; scale = λ k m. tt }) (λ g m. tt) (λ n (u, m, p). inxy-lead n (pole-number P p)) r tt
+  inxy-all r =
+      lowering P {I′ = λ _. Unit} inxy-space (record { nil = tt; sum = λ m n. tt; scale = λ k m. tt }) (λ g m. tt)
+      (λ n (u, m, p). inxy-lead n (pole-number P p)) r tt
 
-  pub xy-times : {U : Car → Type 0} → IsSpace P U → ((u : Car) → U u → U (x ⊗ u)) → ((u : Car) → U u → U (y ⊗ u)) → {r : Car} → InXY r → (u : Car) → U u → U (r ⊗ u)
+  pub xy-times : {U : Car → Type 0} → IsSpace P U → ((u : Car) → U u → U (x ⊗ u)) → ((u : Car) → U u → U (y ⊗ u)) → {r : Car} → InXY r → (u : Car)
+      → U u → U (r ⊗ u)
   xy-times {U} s fx fy (constant b) u m = s .scale b m
-  xy-times {U} s fx fy (plus {p} {q} a b e) u m = subst U (sym (ap (λ t. t ⊗ u) e ∙ laws.add-mul R p q u)) (s .sum (xy-times s fx fy a u m) (xy-times s fx fy b u m))
+  xy-times {U} s fx fy (plus {p} {q} a b e) u m =
+      subst U (sym (ap (λ t. t ⊗ u) e ∙ laws.add-mul R p q u)) (s .sum (xy-times s fx fy a u m) (xy-times s fx fy b u m))
   xy-times {U} s fx fy (times-x {p} a e) u m = subst U (sym (ap (λ t. t ⊗ u) e ∙ R .mul-assoc x p u)) (fx (p ⊗ u) (xy-times s fx fy a u m))
   xy-times {U} s fx fy (times-y {p} a e) u m = subst U (sym (ap (λ t. t ⊗ u) e ∙ R .mul-assoc y p u)) (fy (p ⊗ u) (xy-times s fx fy a u m))
 
@@ -229,7 +234,8 @@ module _ {R : CommRing} (P : Poles R) where
   }
 
   span-taken : (k : Car) (bs cs : List Car) → Every (λ b. Span cs (k ⊗ b)) bs → (h : Car) → Span bs h → Span cs (k ⊗ h)
-  span-taken k bs cs ms = span-in (taken-space {U = Span cs} k (span-space cs)) (λ u m. subst (Span cs) (laws.mul-left-comm R x k u) (span-x cs (k ⊗ u) m)) bs ms
+  span-taken k bs cs ms =
+      span-in (taken-space {U = Span cs} k (span-space cs)) (λ u m. subst (Span cs) (laws.mul-left-comm R x k u) (span-x cs (k ⊗ u) m)) bs ms
 
   pub span-ideal : (bs : List Car) → Every (λ b. Span bs (y ⊗ b)) bs → IsIdeal R (Span bs)
   span-ideal bs ms = xy-ideal (span-space bs) (span-x bs) (span-taken y bs bs ms)
@@ -245,7 +251,8 @@ module _ {R : CommRing} (P : Poles R) where
 
   -- b·a for b in Span cs: first for a of the list bs, then for a in Span bs.
   span-times-span : (bs cs : List Car) (a b : Car) → Span bs a → Span cs b → Span (products R bs cs) (a ⊗ b)
-  span-times-span bs cs a b ma mb = subst (Span (products R bs cs)) (R .mul-comm b a) (span-taken b bs (products R bs cs) (every-map row bs (span-products bs cs)) a ma)
+  span-times-span bs cs a b ma mb =
+      subst (Span (products R bs cs)) (R .mul-comm b a) (span-taken b bs (products R bs cs) (every-map row bs (span-products bs cs)) a ma)
     where
       row : (g : Car) → Every (λ c. Span (products R bs cs) (g ⊗ c)) cs → Span (products R bs cs) (b ⊗ g)
       row g ms = subst (Span (products R bs cs)) (R .mul-comm g b) (span-taken g cs (products R bs cs) ms b mb)

@@ -32,7 +32,8 @@ module _ {R : CommRing} (P : Poles R) where
       go (f, l) = (f, record { f = f; least = l; same = same-refl R (Colon R f J) })
 
   pub star-unique : {J K K′ : Car → Type 0} → IsIdeal R J → IsStar P J K → IsStar P J K′ → SameIdeal R K K′
-  star-unique {J} {K} {K′} i s s′ = same-trans R (s .same) (subst (λ t. SameIdeal R (Colon R t J) K′) (least-unique P (ideal-space P i) (s′ .least) (s .least)) (same-sym R (s′ .same)))
+  star-unique {J} {K} {K′} i s s′ =
+      same-trans R (s .same) (subst (λ t. SameIdeal R (Colon R t J) K′) (least-unique P (ideal-space P i) (s′ .least) (s .least)) (same-sym R (s′ .same)))
 
   pub star-small : {J K : Car → Type 0} → BasedIdeal P J → IsStar P J K → SmallFootprint P K
   star-small b s = footprint-same P (same-sym R (s .same)) (star-footprint P (b .ideal) (b .based) (s .least))
@@ -54,12 +55,15 @@ module _ {R : CommRing} (P : Poles R) where
       go (f, l) = record { f = f; least = l; same = same-trans R (s .same) (same-sym R (star-class P (equivalent-ideal P e j) j e l (s .least))) }
 
   pub reduced-transfer : {G J A : Car → Type 0} → BasedIdeal P J → Equivalent R G J → IsReduced P J A → IsReduced P G A
-  reduced-transfer b e r = equivalent-reduced P (reduced-footprint P (b .ideal) (b .based) r) (equivalent-trans P e (reduced-equivalent P (b .ideal) (b .based) r))
+  reduced-transfer b e r =
+      equivalent-reduced P (reduced-footprint P (b .ideal) (b .based) r) (equivalent-trans P e (reduced-equivalent P (b .ideal) (b .based) r))
 
-  pub reduced-exists-small : {J : Car → Type 0} → BasedIdeal P J → (f f′ : Car) × IsReduced P J (Colon R f′ (Colon R f J)) × SmallFootprint P (Colon R f′ (Colon R f J)) × Equivalent R J (Colon R f′ (Colon R f J))
+  pub reduced-exists-small : {J : Car → Type 0} → BasedIdeal P J
+      → (f f′ : Car) × IsReduced P J (Colon R f′ (Colon R f J)) × SmallFootprint P (Colon R f′ (Colon R f J)) × Equivalent R J (Colon R f′ (Colon R f J))
   reduced-exists-small {J} b = go (reduced-exists P (b .ideal) (b .based) (b .lead))
     where
-      go : (f f′ : Car) × IsReduced P J (Colon R f′ (Colon R f J)) → (f f′ : Car) × IsReduced P J (Colon R f′ (Colon R f J)) × SmallFootprint P (Colon R f′ (Colon R f J)) × Equivalent R J (Colon R f′ (Colon R f J))
+      go : (f f′ : Car) × IsReduced P J (Colon R f′ (Colon R f J))
+          → (f f′ : Car) × IsReduced P J (Colon R f′ (Colon R f J)) × SmallFootprint P (Colon R f′ (Colon R f J)) × Equivalent R J (Colon R f′ (Colon R f J))
       go (f, f′, r) = (f, f′, r, reduced-footprint P (b .ideal) (b .based) r, reduced-equivalent P (b .ideal) (b .based) r)
 
   pub whole-footprint : SmallFootprint P (λ _. Unit)

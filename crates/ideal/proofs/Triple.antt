@@ -48,15 +48,18 @@ module _ {R : CommRing} (P : Poles R) where
   ray-lead {b} {d} {n} pb (h, (p, i, e), ph) = go (degree P p)
     where
       at : {m : ℕ} → HasPole P p m → (j : ℕ) × (m ≡ 3 * j) → Reach d n
-      at {m} pp (j, e′) = (omega (arith, pole-unique P ph (pole-cong P (sym e) (pole-mul P pp pb))), omega (arith, pole-unique P ph (pole-cong P (sym e) (pole-mul P pp pb))))
+      at {m} pp (j, e′) =
+          (omega (arith, pole-unique P ph (pole-cong P (sym e) (pole-mul P pp pb))), omega (arith, pole-unique P ph (pole-cong P (sym e) (pole-mul P pp pb))))
 
       go : (p ≡ zero) ⊎ ((m : ℕ) × HasPole P p m) → Reach d n
       go (inl z) = absurd (pole-nonzero P ph (e ∙ ap (λ t. t ⊗ b) z ∙ laws.zero-mul R b))
       go (inr (m, pp)) = at pp (inx-pole P i pp)
 
-  pub span-step : (bs : List Car) {b : Car} {d n : ℕ} → HasPole P b d → ((m : ℕ) → Lead P (Span P bs) m → ¬ Reach d m) → Lead P (Span P (b ∷ bs)) n → Reach d n ⊎ Lead P (Span P bs) n
+  pub span-step : (bs : List Car) {b : Car} {d n : ℕ} → HasPole P b d → ((m : ℕ) → Lead P (Span P bs) m → ¬ Reach d m) → Lead P (Span P (b ∷ bs)) n
+      → Reach d n ⊎ Lead P (Span P bs) n
   unfolding Ray
-  span-step bs {b} {d} {n} pb apart (h, (p, s, i, m, e), ph) = ⊎-elim (λ l. inl (ray-lead pb l)) inr (sum-lead P {U = Ray b} {W = Span P bs} (λ k lr ls. apart k ls (ray-lead pb lr)) (p, i, refl) m (pole-cong P e ph))
+  span-step bs {b} {d} {n} pb apart (h, (p, s, i, m, e), ph) =
+      ⊎-elim (λ l. inl (ray-lead pb l)) inr (sum-lead P {U = Ray b} {W = Span P bs} (λ k lr ls. apart k ls (ray-lead pb lr)) (p, i, refl) m (pole-cong P e ph))
 
   module _ {b₀ b₁ b₂ : Car} {d₀ d₁ d₂ : ℕ} (p₀ : HasPole P b₀ d₀) (p₁ : HasPole P b₁ d₁) (p₂ : HasPole P b₂ d₂) (a₀₁ : ¬ (d₀ % 3 ≡ d₁ % 3)) (a₀₂ : ¬ (d₀ % 3 ≡ d₂ % 3)) (a₁₂ : ¬ (d₁ % 3 ≡ d₂ % 3)) where
     last-lead : (n : ℕ) → Lead P (Span P (b₂ ∷ [])) n → Reach d₂ n
@@ -66,7 +69,9 @@ module _ {R : CommRing} (P : Poles R) where
     two-lead n l = ⊎-elim inl (λ l. inr (last-lead n l)) (span-step (b₂ ∷ []) p₁ (λ m l r. a₁₂ (sym (r .1) ∙ last-lead m l .1)) l)
 
     pub triple-lead : (n : ℕ) → Lead P (Span P (b₀ ∷ b₁ ∷ b₂ ∷ [])) n → Reach d₀ n ⊎ (Reach d₁ n ⊎ Reach d₂ n)
-    triple-lead n l = ⊎-elim inl (λ l. inr (two-lead n l)) (span-step (b₁ ∷ b₂ ∷ []) p₀ (λ m l r. ⊎-elim (λ q. a₀₁ (sym (r .1) ∙ q .1)) (λ q. a₀₂ (sym (r .1) ∙ q .1)) (two-lead m l)) l)
+    triple-lead n l =
+        ⊎-elim inl (λ l. inr (two-lead n l))
+        (span-step (b₁ ∷ b₂ ∷ []) p₀ (λ m l r. ⊎-elim (λ q. a₀₁ (sym (r .1) ∙ q .1)) (λ q. a₀₂ (sym (r .1) ∙ q .1)) (two-lead m l)) l)
 
     pub triple-reach : (n : ℕ) → Reach d₀ n ⊎ (Reach d₁ n ⊎ Reach d₂ n) → Lead P (Span P (b₀ ∷ b₁ ∷ b₂ ∷ [])) n
     triple-reach n (inl r) = span-reach (b₀ ∷ b₁ ∷ b₂ ∷ []) (span-each P (b₀ ∷ b₁ ∷ b₂ ∷ []) .0) p₀ r
