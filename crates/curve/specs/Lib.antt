@@ -1,0 +1,5 @@
+-- The coordinate ring of a C34 curve and its pole numbers.
+pub mod CubicLaws
+pub mod Cubic
+pub mod Component
+pub mod Curve
