@@ -3,3 +3,8 @@ pub mod CubicLaws
 pub mod Cubic
 pub mod Component
 pub mod Curve
+pub mod Back
+pub mod Coefficient
+pub mod Pole
+pub mod Monomial
+pub mod Term
