@@ -2,12 +2,14 @@
 --   back A d f n       f at the place n − d; 0 where n is below d
 --   back-low back-high its values below d and from d on
 --   weigh A cs f       c₀·f + c₁·(f moved by 1) + c₂·(f moved by 2) + …
+--   weigh-vanish       the sum is 0 if f is 0 at every place that it reads
 --   coef-ascending     the coefficients of (ascending cs)·f are those of weigh cs
 use mathlib.Core.Path.{_≡_, refl, sym, _∙_, ap, ap₂, fun-ext}
 use mathlib.Core.List.{List, [], _∷_}
 use Prim.Native.Nat.{ℕ, zero, suc, _+_, _<_}
 use native.Mathlib.Nat as N
 use native.Mathlib.Omega.{arith}
+use lib.ListN.{length}
 use Rattle.algebra.specs.Ring.{CommRing}
 use Rattle.algebra.proofs.Laws as L
 use Rattle.algebra.proofs.Solve.{solve, _⊞_, _⊠_}
@@ -20,6 +22,9 @@ module _ (A : CommRing) where
 
   infixl 60 _⊕_
   infixl 70 _⊗_
+  length-cons : (c : Car) (cs : List Car) → length (c ∷ cs) ≡ suc (length cs)
+  length-cons c cs = refl
+
   unfoldable pub back : ℕ → (ℕ → Car) → ℕ → Car
   back zero f n = f n
   back (suc d) f zero = 𝟘
@@ -62,6 +67,18 @@ module _ (A : CommRing) where
   weigh-back : (d : ℕ) (cs : List Car) (f : ℕ → Car) (n : ℕ) → weigh-from d cs (back 1 f) n ≡ weigh-from (suc d) cs f n
   weigh-back d [] f n = refl
   weigh-back d (c ∷ cs) f n = ap₂ (λ u v. c ⊗ u ⊕ v) (back-back d f n) (weigh-back (suc d) cs f n)
+
+  pub back-vanish : (d : ℕ) (f : ℕ → Car) (n : ℕ) → ((m : ℕ) → n ≡ d + m → f m ≡ 𝟘) → back d f n ≡ 𝟘
+  back-vanish zero f n h = back-none f n ∙ h n (omega arith)
+  back-vanish (suc d) f zero h = back-first d f
+  back-vanish (suc d) f (suc n) h = back-next d f n ∙ back-vanish d f n (λ m e. h m (omega arith))
+
+  pub weigh-vanish : (d : ℕ) (cs : List Car) (f : ℕ → Car) (n : ℕ) → ((m : ℕ) → n < m + (d + length cs) → f m ≡ 𝟘) → weigh-from d cs f n ≡ 𝟘
+  weigh-vanish d [] f n h = refl
+  weigh-vanish d (c ∷ cs) f n h =
+      ap₂ (λ u v. c ⊗ u ⊕ v) (back-vanish d f n (λ m e. h m (omega (arith, length-cons c cs)))) (weigh-vanish (suc d) cs f n (λ m l. h m (omega (arith, length-cons c cs))))
+      ∙ A .add-zero _
+      ∙ L.mul-zero A c
 
   coef-X : (f : Poly A .Car) (n : ℕ) → coef A (Poly A .mul (X A) f) n ≡ back 1 (coef A f) n
   coef-X f zero = coef-X-head A f ∙ sym (back-first 0 (coef A f))
