@@ -9,3 +9,5 @@ pub mod Pole
 pub mod Monomial
 pub mod Term
 pub mod Filtration
+pub mod Lead
+pub mod Product
