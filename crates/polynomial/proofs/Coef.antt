@@ -2,9 +2,10 @@
 --   coef-zero coef-add coef-neg coef-one-head coef-one-next      of the ring's operations
 --   coef-mul            the product's coefficients are those of the product of series
 --   coef-mul-head coef-mul-next                                  the product's recursion
---   coef-poly coef-rest coef-const-head coef-const-next coef-X   of polynomials given by coefficients
+--   coef-poly coef-rest coef-const-head coef-const-next          of polynomials given by coefficients
 --   coef-const-mul      of a constant times f
 --   coef-X-head coef-X-next                                      of the variable times f
+--   coef-split-head coef-split-next                              of k + X·f
 --   const-zero const-one const-add const-mul const-neg           constants are a subring
 --   const-inj X-inj     constants with the same polynomial are equal; the variable can be cancelled
 --   split               f = f₀ + X·(rest f)
@@ -13,7 +14,7 @@ use mathlib.Core.Path.{_≡_, refl, sym, _∙_, ap, ap₂}
 use Prim.Native.Nat.{ℕ, zero, suc}
 use Rattle.algebra.specs.Ring.{CommRing}
 use Rattle.algebra.proofs.Laws.{mul-zero, zero-mul, neg-zero, zero-add}
-use Rattle.polynomial.specs.Series.{Series, tail, product, constant, shift, product-head, product-next, constant-head, constant-next}
+use Rattle.polynomial.specs.Series.{Series, product, constant, shift, product-head, product-next}
 use Rattle.polynomial.specs.SeriesLaws.{constant-product}
 use Rattle.polynomial.specs.Bounds.{Finite}
 use Rattle.polynomial.specs.Poly.{Poly, coef, poly, poly-path, const, X, rest}
@@ -84,6 +85,12 @@ module _ (A : CommRing) where
   unfolding Poly coef poly X shift
   coef-X-next f i = product-next A _ _ i ∙ ap₂ _⊕_ (zero-mul A _) (constant-product A 𝟙 (coef A f) i ∙ mul-comm _ _ ∙ mul-one _) ∙ zero-add A _
 
+  pub coef-split-head : (k : Car) (f : Pol) → coef A (const A k +ₚ X A ·ₚ f) zero ≡ k
+  coef-split-head k f = coef-add _ _ zero ∙ ap₂ _⊕_ (coef-const-head k) (coef-X-head f) ∙ add-zero k
+
+  pub coef-split-next : (k : Car) (f : Pol) (i : ℕ) → coef A (const A k +ₚ X A ·ₚ f) (suc i) ≡ coef A f i
+  coef-split-next k f i = coef-add _ _ (suc i) ∙ ap₂ _⊕_ (coef-const-next k i) (coef-X-next f i) ∙ zero-add A _
+
   pub const-inj : (a b : Car) → const A a ≡ const A b → a ≡ b
   const-inj a b e = sym (coef-const-head a) ∙ ap (λ f. coef A f zero) e ∙ coef-const-head b
 
@@ -130,4 +137,4 @@ module _ (A : CommRing) where
       go (suc i) = simp (coef-add, coef-const-next, coef-X-next, coef-rest, zero-add A)
 
   pub rest-split : (k : Car) (f : Pol) → rest A (const A k +ₚ X A ·ₚ f) ≡ f
-  rest-split k f = poly-path A (λ i. coef-rest _ i ∙ coef-add _ _ (suc i) ∙ ap₂ _⊕_ (coef-const-next k i) (coef-X-next f i) ∙ zero-add A _)
+  rest-split k f = poly-path A (λ i. coef-rest _ i ∙ coef-split-next k f i)

@@ -1,4 +1,7 @@
 -- Induction on polynomials: what holds of 0, and of k + X·f if of f, holds of every polynomial.
+--   none               a polynomial that vanishes from 0 on is zero
+--   bound-rest         the rest of f has a bound one less
+--   induct-bound       induction up to a bound of f, for any property
 --   induct             for a property that is a proposition, as an equation in a set is
 use mathlib.Core.Path.{_≡_, sym, _∙_, subst}
 use mathlib.Core.Logic.{∥∥₁-elim}

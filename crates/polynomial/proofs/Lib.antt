@@ -2,3 +2,10 @@
 pub mod Coef
 pub mod Induct
 pub mod Bound
+pub mod Deriv
+pub mod Eval
+pub mod Power
+pub mod Plane
+pub mod Cubic
+pub mod Division
+pub mod Kernel

@@ -2,13 +2,13 @@
 --   Bound a n          the coefficients of a are 0 from n on
 --   Finite a           a has some bound; a proposition
 -- Sums, negatives, products, constants, shifts and tails of such series are such series.
-use mathlib.Core.Path.{_≡_, refl, sym, _∙_, ap, ap₂}
+use mathlib.Core.Path.{_≡_, _∙_, ap, ap₂}
 use mathlib.Core.Logic.{∥∥₁-map, ∥∥₁-map₂}
 use Prim.Native.Nat.{ℕ, zero, suc, _+_, _≤_, suc-le-suc}
 use native.Mathlib.Omega.{arith}
 use Rattle.algebra.specs.Ring.{CommRing}
 use Rattle.algebra.proofs.Laws.{mul-zero, neg-zero}
-use Rattle.polynomial.specs.Series.{Series, tail, product, constant, shift, product-head, product-next, constant-next, shift-next}
+use Rattle.polynomial.specs.Series.{Series, tail, product, constant, shift, product-next, constant-next, shift-next}
 use Rattle.polynomial.specs.SeriesLaws.{zero-product}
 
 module _ (A : CommRing) where

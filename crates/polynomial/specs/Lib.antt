@@ -6,3 +6,5 @@ pub mod Poly
 pub mod Deriv
 pub mod RingMap
 pub mod Eval
+pub mod Plane
+pub mod Cubic

@@ -1,5 +1,10 @@
 -- The laws of the product of power series, each at every index, by induction on the index.
-use mathlib.Core.Path.{_≡_, refl, sym, _∙_, ap, ap₂}
+--   product-next′          the recursion from the other side: (ab)ₙ₊₁ = aₙ₊₁·b₀ + (a·tail b)ₙ
+--   product-comm product-assoc product-one product-add add-product       the ring laws
+--   product-scale          (k·a)·b = k·(a·b)
+--   constant-product       the constant k times b is k·b
+--   zero-product           a series of zeros times b is zero
+use mathlib.Core.Path.{_≡_, sym, _∙_, ap, ap₂}
 use Prim.Native.Nat.{ℕ, zero, suc}
 use Rattle.algebra.specs.Ring.{CommRing}
 use Rattle.algebra.proofs.Laws.{add-left-comm, swap-add, zero-mul}
@@ -10,7 +15,6 @@ module _ (A : CommRing) where
 
   infixl 60 _⊕_
   infixl 70 _⊗_
-  -- The recursion from the other side: (ab)ₙ₊₁ = aₙ₊₁·b₀ + (a·tail b)ₙ.
   pub product-next′ : (a b : Series A) (n : ℕ) → product A a b (suc n) ≡ a (suc n) ⊗ b zero ⊕ product A a (tail A b) n
   product-next′ a b zero = product-next A a b zero ∙ ap (λ t. a zero ⊗ b (suc zero) ⊕ t) (product-head A (tail A a) b) ∙ add-comm _ _ ∙ ap (λ t. a (suc zero) ⊗ b zero ⊕ t) (sym (product-head A a (tail A b)))
   product-next′ a b (suc n) =
