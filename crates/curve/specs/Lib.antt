@@ -11,3 +11,4 @@ pub mod Term
 pub mod Filtration
 pub mod Lead
 pub mod Product
+pub mod Poles
