@@ -4,13 +4,13 @@
 --   coefficient-mono-other                     mono n has no coefficient but that at n
 --   mono-vector        the vector of a sequence that is 1 at n and 0 elsewhere is mono n
 use mathlib.Core.Path.{_≡_, refl, sym, _∙_, ap, ap₂}
-use mathlib.Core.List.{List, [], _∷_}
+use mathlib.Core.List.{[], _∷_}
 use Prim.Native.Nat.{ℕ, zero, suc, _+_, _-_, _≤_, _<_}
 use native.Mathlib.Omega.{arith}
 use native.Mathlib.Decide.{decLe, ℕ-discrete}
 use Rattle.algebra.specs.Ring.{CommRing}
 use Rattle.algebra.proofs.Laws as L
-use Rattle.ideal.specs.Poles.{IsGap, IsPole}
+use Rattle.ideal.specs.Poles.{IsPole}
 use Rattle.curve.specs.Curve.{Curve, Coordinate, x, y, at}
 use Rattle.curve.specs.Back.{weigh-vanish}
 use Rattle.curve.specs.Coefficient.{at-one-0, at-one-x, at-one-y, at-x-first, at-x-next, at-y-0, at-y-1, at-y-2}

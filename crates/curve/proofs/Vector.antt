@@ -6,16 +6,16 @@
 --   vector-of          every g without monomials from N on is the vector of its coefficients
 --   below-vector       the vector of f has no monomial from N on
 --   vector-zero vector-add vector-scale vector-axpy vector-x vector-y       sums, multiples by constants, by x and by y
-use mathlib.Core.Path.{_≡_, refl, sym, _∙_, ap, ap₂, subst, fun-ext}
-use mathlib.Core.Logic.{_⊎_, inl, inr}
-use Prim.Native.Nat.{ℕ, zero, suc, _+_, _*_, _-_, _%_, _≤_, _<_}
+use mathlib.Core.Path.{_≡_, refl, sym, _∙_, ap, ap₂, fun-ext}
+use mathlib.Core.Logic.{inl, inr}
+use Prim.Native.Nat.{ℕ, zero, suc, _+_, _%_, _≤_}
 use native.Mathlib.Omega.{arith}
 use native.Mathlib.Decide.{decLe}
 use Rattle.algebra.specs.Ring.{CommRing}
 use Rattle.ideal.specs.Poles.{IsGap, IsPole}
 use Rattle.curve.specs.Curve.{Curve, Coordinate, x, y, constant}
 use Rattle.curve.specs.Back.{back}
-use Rattle.curve.specs.Pole.{pole, Located, place, gap, locate, gap-dec}
+use Rattle.curve.specs.Pole.{gap-dec}
 use Rattle.curve.specs.Monomial.{coefficient, vector}
 use Rattle.curve.specs.Term.{coefficient-gap, coefficient-ext, coefficient-zero, coefficient-add, coefficient-constant-mul, coefficient-vector, coefficient-x}
 use Rattle.curve.specs.Filtration.{Below, below-coefficient, coefficient-below}
@@ -97,9 +97,6 @@ module _ {k : CommRing} (C : Curve k) where
     pub vector-y : Gapless f → TimesY → y C ⊗ vector C f N h ≡ vector C g M l
     vector-y z t = vector-is g M l (y C ⊗ vector C f N h) (λ n p. go n p (n % 3) refl)
       where
-        v : El
-        v = vector C f N h
-
         same : (λ n. coefficient C n (vector C f N h)) ≡ f
         same = fun-ext (vector-all f N h z)
 
