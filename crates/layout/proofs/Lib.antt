@@ -1,0 +1,2 @@
+-- Laws of the bytes of a record.
+pub mod Stores
