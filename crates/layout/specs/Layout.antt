@@ -1,6 +1,7 @@
 -- The bytes of a record. Document 01, "Records": "Every record has a two-byte length (the whole record, these bytes included), a
 -- two-byte kind, then four-byte numbers. All are unsigned and little-endian." A string of bytes is a list of numbers below 256.
 --   Bytes s               every element of s is below 256
+--   Words ns              every number of ns is below 2³²
 --   number2 s i           the two-byte number at place i of s; a byte past the end counts as 0
 --   number4 s i           the four-byte number at place i of s
 --   numbers s i c         the c four-byte numbers from place i of s on
@@ -14,6 +15,9 @@ use lib.ListN.{length, getD}
 -- Past the end the default 0 is below 256, so this speaks of the elements alone.
 abbrev pub Bytes : List ℕ → Type 0
 Bytes s = (i : ℕ) → getD s i 0 < 256
+
+abbrev pub Words : List ℕ → Type 0
+Words ns = (k : ℕ) → getD ns k 0 < 4294967296
 
 unfoldable pub number2 : List ℕ → ℕ → ℕ
 number2 s i = getD s i 0 + 256 * getD s (i + 1) 0

@@ -58,3 +58,63 @@ pub fn write_u32(s: &mut [u8], at: usize, v: u32)
     s[at + 2] = (v / 65536 % 256) as u8;
     s[at + 3] = (v / 16777216 % 256) as u8;
 }
+
+// Writes the first `count` numbers of ns, four bytes each, from place `at` on.
+pub fn write_numbers(out: &mut [u8], at: usize, ns: &[u32], count: usize)
+    requires { do ⌜ at + 4 * count ≤ (← ⟦out.len()⟧) ⌝ }
+    requires { do ⌜ count ≤ (← ⟦ns.len()⟧) ⌝ }
+    ensures { λ _. ⌜ now (out .exit) ≡ take at (now (out .entry)) ++ all-bytes4 (take count (now (ns .entry))) ++ drop (at + 4 * count) (now (out .entry)) ⌝ }
+{
+    let mut i = 0;
+    while i < count {
+        let place = at + 4 * i;
+        write_u32(out, place, ns[i]);
+        i += 1;
+    }
+}
+
+// Writes the record of the first `count` of the nine numbers at the start of `out`, and returns its length.
+pub fn write_record(
+    out: &mut [u8],
+    kind: u32,
+    count: usize,
+    n0: u32,
+    n1: u32,
+    n2: u32,
+    n3: u32,
+    n4: u32,
+    n5: u32,
+    n6: u32,
+    n7: u32,
+    n8: u32,
+) -> usize
+    requires { ⌜ count ≤ 9 ⌝ }
+    requires { ⌜ kind < 65536 ⌝ }
+    requires { do ⌜ 4 + 4 * count ≤ (← ⟦out.len()⟧) ⌝ }
+    ensures size { λ r. ⌜ r ≡ 4 + 4 * count ⌝ }
+    ensures written { λ _. ⌜ now (out .exit) ≡ record-bytes kind (take count (n0 ∷ n1 ∷ n2 ∷ n3 ∷ n4 ∷ n5 ∷ n6 ∷ n7 ∷ n8 ∷ [])) ++ drop (4 + 4 * count) (now (out .entry)) ⌝ }
+{
+    let size = 4 + 4 * count;
+    write_u16(out, 0, size as u32);
+    write_u16(out, 2, kind);
+    let ns = [n0, n1, n2, n3, n4, n5, n6, n7, n8];
+    write_numbers(out, 4, &ns, count);
+    size
+}
+
+// Whether a and b are the same bytes.
+pub fn same_bytes(a: &[u8], b: &[u8]) -> bool
+    ensures { λ r. ⌜ Same (now (a .entry)) (now (b .entry)) r ⌝ }
+{
+    if a.len() != b.len() {
+        return false;
+    }
+    let mut i = 0;
+    while i < a.len() {
+        if a[i] != b[i] {
+            return false;
+        }
+        i += 1;
+    }
+    true
+}
