@@ -7,10 +7,10 @@
 --   length-numbers, numbers-at                     how many numbers are read, and each of them
 --   number2-bytes2, number4-bytes4, numbers-all-bytes4    reading what was written
 --   bytes2-number2, bytes4-number4, all-bytes4-numbers    writing what was read
-use mathlib.Core.Path.{_≡_, refl, sym, ap, ap₂, _∙_}
-use mathlib.Core.List.{List, [], _∷_, _++_, append-assoc}
+use mathlib.Core.Path.{_≡_, refl, ap, ap₂, _∙_}
+use mathlib.Core.List.{List, [], _∷_, _++_}
 use Prim.Native.Nat.{ℕ, zero, suc, _+_, _*_, _/_, _%_, _≤_, _<_}
-use native.Mathlib.Nat.{add-assoc, add-zero, zero-add, mod-eq-of-lt, add-mul-mod-self-left, div-div-eq-div-mul}
+use native.Mathlib.Nat.{add-assoc, mod-eq-of-lt, add-mul-mod-self-left, div-div-eq-div-mul}
 use native.Mathlib.Omega.{arith}
 use lib.ListN.{length, getD, take, drop, List·getD-append}
 use lib.Seq.{getD-take, getD-drop, getD-append-add}

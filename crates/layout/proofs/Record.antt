@@ -3,15 +3,15 @@
 --   record-injective       two records with the same bytes are the same
 --   record-whole           bytes whose first number is their own length are a record
 --   number2-written, number4-written    a number, read where it was written
-use mathlib.Core.Path.{_≡_, refl, sym, ap, ap₂, _∙_}
-use mathlib.Core.List.{List, [], _∷_, _++_, append-assoc, append-nil}
-use Prim.Native.Nat.{ℕ, zero, suc, _+_, _*_, _≤_, _<_}
+use mathlib.Core.Path.{_≡_, sym, ap, ap₂, _∙_}
+use mathlib.Core.List.{List, [], _∷_, _++_, append-assoc}
+use Prim.Native.Nat.{ℕ, suc, _+_, _*_, _≤_, _<_}
 use native.Mathlib.Nat.{add-zero}
 use native.Mathlib.Omega.{arith}
-use lib.ListN.{length, getD, take, drop, length-append}
+use lib.ListN.{length, take, drop}
 use lib.Seq.{length-take-le}
 use Rattle.layout.specs.Layout.{Bytes, Words, number2, number4, numbers, bytes2, bytes4, all-bytes4, record-bytes}
-use Rattle.layout.proofs.Bytes.{length-bytes2, length-record}
+use Rattle.layout.proofs.Bytes.{length-record}
 use Rattle.layout.proofs.Read.{number2-bytes2, number4-bytes4, bytes2-number2, number2-behind, number4-behind, numbers-behind, length-numbers, numbers-all-bytes4, all-bytes4-numbers}
 
 pub record-length : (kind : ℕ) (ns rest : List ℕ) → length ns ≤ 16000 → number2 (record-bytes kind ns ++ rest) 0 ≡ 4 + 4 * length ns

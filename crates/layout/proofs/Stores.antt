@@ -5,12 +5,12 @@
 --   filled-none, filled-more, filled-turn    the loop that writes them: before the first, after one more
 use mathlib.Core.Path.{_≡_, refl, sym, ap, _∙_}
 use mathlib.Core.List.{List, [], _∷_, _++_, append-assoc, append-nil}
-use Prim.Native.Nat.{ℕ, suc, _+_, _*_, _≤_, _<_}
+use Prim.Native.Nat.{ℕ, _+_, _*_, _≤_, _<_}
 use native.Mathlib.Nat.{add-zero}
 use native.Mathlib.Numerals.{add-one, add-two, add-three}
 use native.Mathlib.Omega.{arith}
-use lib.ListN.{length, getD, take, drop, set, length-append, length-take, length-drop, take-append-drop}
-use lib.Seq.{sets-eq, take-at, drop-at, drop-drop, drop-append-add, take-suc, length-take-le}
+use lib.ListN.{length, getD, take, drop, set, length-append, take-append-drop}
+use lib.Seq.{sets-eq, take-at, drop-at, drop-drop, take-suc, length-take-le}
 use Rattle.layout.specs.Layout.{bytes2, bytes4, all-bytes4, record-bytes}
 use Rattle.layout.proofs.Bytes.{length-bytes2, length-all-bytes4, all-bytes4-append, all-bytes4-one}
 
