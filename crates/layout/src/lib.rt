@@ -3,7 +3,7 @@
 ghost use mathlib.Core.Path.{_≡_};
 ghost use mathlib.Core.List.{[], _∷_, _++_};
 ghost use Prim.Native.Nat.{_+_, _*_, _≤_, _<_};
-ghost use lib.ListN.{length, getD, take, drop};
+ghost use lib.ListN.{getD, take, drop};
 ghost use Rattle.layout.specs.Layout.{bytes2, bytes4, all-bytes4, record-bytes};
 ghost use Rattle.layout.specs.Contracts.{Read2, Read4, Same};
 
