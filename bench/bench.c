@@ -2,6 +2,7 @@
    p = 2147483647, a random curve through a random point, records of kind 31 that are multiples of the point. */
 #define _POSIX_C_SOURCE 199309L
 #include "calls.c"
+#include "field.h"
 #include <stdio.h>
 #include <stdlib.h>
 #include <string.h>

@@ -21,9 +21,6 @@ struct record {
     uint32_t n[9]; /* the numbers; those that the kind does not have are 0 */
 };
 
-/* Field operations done since the program started; they are counted only in a build with -DCOUNT. */
-extern uint64_t count_mul, count_inv;
-
 /* The curve with a0 before x^4 and c[0] to c[8]. */
 struct curve make_curve(uint32_t p, uint32_t a0, const uint32_t c[9]);
 /* 1 if 1 is in the ideal of Fx and Fy in the ring, else 0. */
