@@ -240,31 +240,63 @@ static void polynomial(uint32_t v[26], unsigned m, uint32_t a0, uint32_t a3, uin
     v[m] = 1;
 }
 
-/* The missing third member is y times that of class 1 (kinds 0, 11, 21) or 0 (kind 22). */
+/* The triple of 1. */
+static void triple_0(const struct curve *c, uint32_t t[3][26], unsigned d[3])
+{
+    polynomial(t[0], 0, 0, 0, 0);
+    polynomial(t[1], 4, 0, 0, 0);
+    times_y(c->p, c->f, t[1], 5, t[2]);
+    d[0] = 0, d[1] = 4, d[2] = 8;
+}
+
+/* x + f0; y + g0; y times the second */
+static void triple_11(const struct curve *c, const uint32_t n[9], uint32_t t[3][26], unsigned d[3])
+{
+    polynomial(t[0], 3, n[0], 0, 0);
+    polynomial(t[1], 4, n[1], 0, 0);
+    times_y(c->p, c->f, t[1], 5, t[2]);
+    d[0] = 3, d[1] = 4, d[2] = 8;
+}
+
+/* x^2 + g1 * x + g0; y + f1 * x + f0; y times the second */
+static void triple_21(const struct curve *c, const uint32_t n[9], uint32_t t[3][26], unsigned d[3])
+{
+    polynomial(t[0], 6, n[2], n[3], 0);
+    polynomial(t[1], 4, n[0], n[1], 0);
+    times_y(c->p, c->f, t[1], 5, t[2]);
+    d[0] = 6, d[1] = 4, d[2] = 8;
+}
+
+/* x + f0; y times the first; y^2 + g1 * y + g0 */
+static void triple_22(const struct curve *c, const uint32_t n[9], uint32_t t[3][26], unsigned d[3])
+{
+    polynomial(t[0], 3, n[0], 0, 0);
+    times_y(c->p, c->f, t[0], 4, t[1]);
+    polynomial(t[2], 8, n[1], 0, n[2]);
+    d[0] = 3, d[1] = 7, d[2] = 8;
+}
+
+/* x^2 + f2 * y + f1 * x + f0; x * y + g2 * y + g1 * x + g0; y^2 + h2 * y + h1 * x + h0 */
+static void triple_31(const uint32_t n[9], uint32_t t[3][26], unsigned d[3])
+{
+    polynomial(t[0], 6, n[0], n[1], n[2]);
+    polynomial(t[1], 7, n[3], n[4], n[5]);
+    polynomial(t[2], 8, n[6], n[7], n[8]);
+    d[0] = 6, d[1] = 7, d[2] = 8;
+}
+
 void triple_of(const struct curve *c, const struct record *r, uint32_t t[3][26], unsigned d[3])
 {
-    const uint32_t *n = r->n;
-    d[0] = r->kind == 0 ? 0 : r->kind == 11 || r->kind == 22 ? 3 : 6;
-    d[1] = r->kind == 22 || r->kind == 31 ? 7 : 4;
-    d[2] = 8;
-    if (r->kind == 31) {
-        polynomial(t[0], 6, n[0], n[1], n[2]);
-        polynomial(t[1], 7, n[3], n[4], n[5]);
-        polynomial(t[2], 8, n[6], n[7], n[8]);
-    } else if (r->kind == 22) {
-        polynomial(t[0], 3, n[0], 0, 0);
-        times_y(c->p, c->f, t[0], 4, t[1]);
-        polynomial(t[2], 8, n[1], 0, n[2]);
-    } else {
-        if (r->kind == 21) {
-            polynomial(t[0], 6, n[2], n[3], 0);
-            polynomial(t[1], 4, n[0], n[1], 0);
-        } else {
-            polynomial(t[0], d[0], n[0], 0, 0);
-            polynomial(t[1], 4, n[1], 0, 0);
-        }
-        times_y(c->p, c->f, t[1], 5, t[2]);
-    }
+    if (r->kind == 0)
+        triple_0(c, t, d);
+    else if (r->kind == 11)
+        triple_11(c, r->n, t, d);
+    else if (r->kind == 21)
+        triple_21(c, r->n, t, d);
+    else if (r->kind == 22)
+        triple_22(c, r->n, t, d);
+    else
+        triple_31(r->n, t, d);
 }
 
 struct record negative(const struct curve *c, const struct record *a)

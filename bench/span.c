@@ -19,7 +19,7 @@ static void copy(const uint32_t v[26], uint32_t out[26])
         out[i] = v[i];
 }
 
-/* r plus c * x^(s/3) * b, for b below e, s + e <= 26. */
+/* r plus c * x^(s/3) times the part of b below e, s + e <= 26. */
 static void axpy(uint32_t p, uint32_t r[26], uint32_t c, const uint32_t b[26], unsigned s, unsigned e)
 {
     for (unsigned i = 0; i < e; i++)
@@ -34,7 +34,7 @@ static void clear(uint32_t p, uint32_t v[26], unsigned n, const uint32_t b[26], 
     v[n] = 0;
 }
 
-/* c times v, for v below e. */
+/* v with its places below e times c. */
 static void scale(uint32_t p, uint32_t v[26], uint32_t c, unsigned e)
 {
     for (unsigned i = 0; i < e; i++)
