@@ -22,9 +22,6 @@ module _ (A : CommRing) where
 
   infixl 60 _⊕_
   infixl 70 _⊗_
-  length-cons : (c : Car) (cs : List Car) → length (c ∷ cs) ≡ suc (length cs)
-  length-cons c cs = refl
-
   unfoldable pub back : ℕ → (ℕ → Car) → ℕ → Car
   back zero f n = f n
   back (suc d) f zero = 𝟘
@@ -76,7 +73,7 @@ module _ (A : CommRing) where
   pub weigh-vanish : (d : ℕ) (cs : List Car) (f : ℕ → Car) (n : ℕ) → ((m : ℕ) → n < m + (d + length cs) → f m ≡ 𝟘) → weigh-from d cs f n ≡ 𝟘
   weigh-vanish d [] f n h = refl
   weigh-vanish d (c ∷ cs) f n h =
-      ap₂ (λ u v. c ⊗ u ⊕ v) (back-vanish d f n (λ m e. h m (omega (arith, length-cons c cs)))) (weigh-vanish (suc d) cs f n (λ m l. h m (omega (arith, length-cons c cs))))
+      ap₂ (λ u v. c ⊗ u ⊕ v) (back-vanish d f n (λ m e. h m (omega arith))) (weigh-vanish (suc d) cs f n (λ m l. h m (omega arith)))
       ∙ A .add-zero _
       ∙ L.mul-zero A c
 

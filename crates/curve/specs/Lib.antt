@@ -8,3 +8,4 @@ pub mod Coefficient
 pub mod Pole
 pub mod Monomial
 pub mod Term
+pub mod Filtration

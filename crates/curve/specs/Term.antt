@@ -25,11 +25,11 @@ use Rattle.curve.specs.Coefficient.{at-ext, at-zero, at-add, at-neg, at-
 use Rattle.curve.specs.Pole.{pole, x-power, y-power, pole-x, pole-y, Located, place, gap, locate, pole-is-pole}
 use Rattle.curve.specs.Monomial.{coefficient, pick, vector}
 
-pick-true : {A : Type 0} (b : Bool) (u v : A) → T b → pick b u v ≡ u
+pub pick-true : {A : Type 0} (b : Bool) (u v : A) → T b → pick b u v ≡ u
 pick-true true u v t = refl
 pick-true false u v t = absurd t
 
-pick-false : {A : Type 0} (b : Bool) (u v : A) → ¬ T b → pick b u v ≡ v
+pub pick-false : {A : Type 0} (b : Bool) (u v : A) → ¬ T b → pick b u v ≡ v
 pick-false true u v t = absurd (t tt)
 pick-false false u v t = refl
 
