@@ -173,12 +173,15 @@ shifted-skip {v} {r} {n} a k =
       high = λ j m. a .high j (omega arith);
     }
 
+pub shifted-as : {v r r′ : List ℕ} {n : ℕ} → r′ ≡ r → Shifted v n r → Shifted v n r′
+shifted-as {v} {n = n} e a = subst (λ l. Shifted v n l) (sym e) a
+
 pub shifted-end : {v r : List ℕ} {n top : ℕ} → Shifted v n r → n ≡ top → Shifted v top r
 shifted-end {v} {r} a d = subst (λ k. Shifted v k r) d a
 
 pub paired-start : (p : ℕ) (a b : List ℕ) (s from : ℕ) → 0 < p → Is p 0 (pairing p a b s from from)
 paired-start p a b s from h =
-    record { below = h; is = el-zero p ∙ ap (total (Z p) (λ i. Z p .mul (res p a (from + i)) (res p b (from + i - s)))) {x = 0} (omega arith) }
+    record { below = h; is = el-zero p ∙ ap (total (Z p) (λ i. Z p .mul (res p a (from + i)) (res p b (from + i - s)))) {x = 0} {y = from - from} (omega arith) }
 
 pub paired-more : {p r r′ : ℕ} (a b : List ℕ) (s from n : ℕ) → from ≤ n → Is p r (pairing p a b s from n) → Is p r′ (Z p .add (Z p .mul (res p a n) (res p b (n - s))) (el p r)) → Is p r′ (pairing p a b s from (n + 1))
 paired-more {p} {r} {r′} a b s from n h i j =
@@ -187,8 +190,8 @@ paired-more {p} {r} {r′} a b s from n h i j =
       is =
         j .is
         ∙ ap (Z p .add (Z p .mul (res p a n) (res p b (n - s)))) (i .is)
-        ∙ ap (λ m. Z p .add (Z p .mul (res p a m) (res p b (m - s))) (pairing p a b s from n)) {y = from + (n - from)} (omega arith)
-        ∙ ap (total (Z p) (λ k. Z p .mul (res p a (from + k)) (res p b (from + k - s)))) {x = suc (n - from)} (omega arith);
+        ∙ ap (λ m. Z p .add (Z p .mul (res p a m) (res p b (m - s))) (pairing p a b s from n)) {x = n} {y = from + (n - from)} (omega arith)
+        ∙ ap (total (Z p) (λ k. Z p .mul (res p a (from + k)) (res p b (from + k - s)))) {x = suc (n - from)} {y = n + 1 - from} (omega arith);
     }
 
 pub paired-end : {p r : ℕ} (a b : List ℕ) (s from n to : ℕ) → n - from ≡ to - from → Is p r (pairing p a b s from n) → Is p r (pairing p a b s from to)

@@ -1,7 +1,9 @@
 // Vectors of residues modulo p, indexed by pole number. A vector is 26 numbers below p, 0 at the places 1, 2 and 5.
 // The vector that a loop works on is lent, and loops end at the degree.
 ghost use mathlib.Core.Path.{_≡_};
+ghost use lib.ListN.{length};
 ghost use Rattle.field.specs.Contract.{Is};
+ghost use Rattle.vector.specs.Vector.{width};
 ghost use Rattle.vector.specs.Contract.{AxpyAsked, Added, ClearAsked, Cleared, MonicAsked, MadeMonic, TimesYAsked, TimesY, YMultiplesAsked, YMultiples, TimesAsked, Times, DotAsked, pairing, ZeroTest, ScaleAsked, Scaled, ShiftAsked, Shifted};
 
 // c·x^(s/3)·b added to r, for b below e.
@@ -101,6 +103,7 @@ pub fn dot(p: u32, a: &[u32; 26], b: &[u32; 26], s: usize, from: usize, to: usiz
 
 // Is v zero?
 pub fn is_zero(v: &[u32; 26]) -> bool
+    requires { ⌜ length (now v) ≡ width ⌝ }
     ensures { λ r. ⌜ ZeroTest (now (v .entry)) r ⌝ }
 {
     let mut i = 0;

@@ -1,3 +1,4 @@
+use mathlib.Core.Path.{_≡_}
 use Rattle.field.specs.Contract.{Below₃}
 use Rattle.vector.proofs.Loop.{paired-start, paired-more, paired-end}
 use Rattle.field.specs.Contract.{Is}
@@ -19,7 +20,7 @@ abbrev μ-loop : tie.MeasureT-loop
 
 -- src/lib.rt:95:5
 loop-holds : tie.Need-loop-holds Inv-loop μ-loop
-loop-holds c = (paired-start _ _ _ _ _ (omega (arith, c .pre .a-vec .below 0)), omega arith, omega arith)
+loop-holds c = (paired-start _ (c .args .a .now) (c .args .b .now) (c .args .s) (c .args .from) (omega (arith, c .pre .a-vec .below 0)), omega arith, omega arith)
 
 -- src/lib.rt:96:31
 mul-mul-add : tie.Need-mul-mul-add Inv-loop μ-loop
@@ -55,11 +56,11 @@ loop-less c = search needs
 
 -- src/lib.rt:95:5
 loop-again : tie.Need-loop-again Inv-loop μ-loop
-loop-again c = (paired-more _ _ _ _ _ (c .before .before .before .before .loop .inv .1) (c .before .before .before .before .loop .inv .0) (c .mul-add .ensures), omega arith, omega arith)
+loop-again c = let a = c .before .before .before .before .before .args in (paired-more (a .a .now) (a .b .now) (a .s) (a .from) _ (c .before .before .before .before .loop .inv .1) (c .before .before .before .before .loop .inv .0) (c .mul-add .ensures), omega arith, omega arith)
 
 -- src/lib.rt:89:1
 returns : tie.Need-returns Inv-loop μ-loop
-returns c = paired-end _ _ _ _ _ _ (omega arith) (c .before .loop .inv .0)
+returns c = let a = c .before .before .args in let e : c .before .loop .n - a .from ≡ a .to - a .from = omega arith in paired-end (a .a .now) (a .b .now) (a .s) (a .from) _ _ e (c .before .loop .inv .0)
 
 pub dot-spec : {M : Type 1} → statement M
 dot-spec =

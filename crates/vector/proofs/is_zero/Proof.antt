@@ -41,11 +41,11 @@ loop-less c = search needs
 
 -- src/lib.rt:107:5
 loop-again : tie.Need-loop-again Inv-loop μ-loop
-loop-again c = (omega arith, seen-more _ _ (c .before .before .before .loop .inv .1) (c .if1 .left))
+loop-again c = (omega arith, seen-more (c .before .before .before .before .args .v .now) _ (c .before .before .before .loop .inv .1) (c .if1 .left))
 
 -- src/lib.rt:103:1
 returns-2 : tie.Need-returns-2 Inv-loop μ-loop
-returns-2 c = zero-test-true _ _ (omega (arith, c .before .before .good)) (c .before .loop .inv .1)
+returns-2 c = zero-test-true _ _ (omega arith) (c .before .loop .inv .1)
 
 pub is-zero-spec : {M : Type 1} → statement M
 is-zero-spec =

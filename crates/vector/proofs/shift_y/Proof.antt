@@ -1,5 +1,5 @@
 use mathlib.Core.Logic.{⊎-elim}
-use Rattle.vector.proofs.Loop.{shifted-start, shifted-more, shifted-skip, shifted-end}
+use Rattle.vector.proofs.Loop.{shifted-start, shifted-more, shifted-skip, shifted-as, shifted-end}
 use Rattle.vector.specs.Contract.{Shifted}
 use borrow.Author.Needs.{needs}
 use Prim.Native.Nat.{_≤_, _-_, _+_}
@@ -49,7 +49,7 @@ loop-less c = search needs
 
 -- src/lib.rt:129:5
 loop-again : tie.Need-loop-again Inv-loop μ-loop
-loop-again c = (⊎-elim (λ w. ?one) (λ w. ?two) (c .if1 .came), omega arith)
+loop-again c = (⊎-elim (λ w. shifted-as (w .2) (shifted-more (c .before .before .before .pre) (c .before .before .loop .inv .0) (c .before .loop-test .taken) (omega (arith, w .0 .taken)))) (λ w. shifted-as (w .1) (shifted-skip (c .before .before .loop .inv .0) (w .0 .left))) (c .if1 .came), omega arith)
 
 -- src/lib.rt:126:1
 returns : tie.Need-returns Inv-loop μ-loop
