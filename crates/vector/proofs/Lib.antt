@@ -1,2 +1,3 @@
 -- Laws of the loops on vectors.
 pub mod Loop
+pub mod Monomial
