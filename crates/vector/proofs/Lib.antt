@@ -1,3 +1,4 @@
 -- Laws of the loops on vectors.
 pub mod Loop
 pub mod Monomial
+pub mod Element
