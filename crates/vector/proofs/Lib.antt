@@ -2,3 +2,4 @@
 pub mod Loop
 pub mod Monomial
 pub mod Element
+pub mod Lead
