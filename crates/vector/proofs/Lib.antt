@@ -3,3 +3,4 @@ pub mod Loop
 pub mod Monomial
 pub mod Element
 pub mod Lead
+pub mod Portion
