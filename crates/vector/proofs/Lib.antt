@@ -4,3 +4,4 @@ pub mod Monomial
 pub mod Element
 pub mod Lead
 pub mod Portion
+pub mod Product
