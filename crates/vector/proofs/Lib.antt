@@ -6,3 +6,4 @@ pub mod Lead
 pub mod Portion
 pub mod Product
 pub mod ByY
+pub mod Powers
