@@ -47,19 +47,20 @@ size κ = 4 + 4 * count κ
 
 module _ {k : CommRing} (C : Curve k) where
   open CommRing (Coordinate C) using (Car, zero, one, add as _⊕_, mul as _⊗_)
+
   infixl 60 _⊕_
   infixl 70 _⊗_
-
   abbrev pub polynomials : Kind → (ℕ → k .Car) → List Car
   polynomials k0 n = one ∷ []
-  polynomials k11 n = x C ⊕ constant C (n 0) ∷ y C ⊕ constant C (n 1) ∷ []
+  polynomials k11 n = (x C ⊕ constant C (n 0)) ∷ (y C ⊕ constant C (n 1)) ∷ []
   polynomials k21 n =
-      y C ⊕ constant C (n 1) ⊗ x C ⊕ constant C (n 0) ∷ x C ⊗ x C ⊕ constant C (n 3) ⊗ x C ⊕ constant C (n 2) ∷ []
-  polynomials k22 n = x C ⊕ constant C (n 0) ∷ y C ⊗ y C ⊕ constant C (n 2) ⊗ y C ⊕ constant C (n 1) ∷ []
+      (y C ⊕ constant C (n 1) ⊗ x C ⊕ constant C (n 0)) ∷ (x C ⊗ x C ⊕ constant C (n 3) ⊗ x C ⊕ constant C (n 2)) ∷ []
+  polynomials k22 n =
+      (x C ⊕ constant C (n 0)) ∷ (y C ⊗ y C ⊕ constant C (n 2) ⊗ y C ⊕ constant C (n 1)) ∷ []
   polynomials k31 n =
-      x C ⊗ x C ⊕ constant C (n 2) ⊗ y C ⊕ constant C (n 1) ⊗ x C ⊕ constant C (n 0)
-      ∷ x C ⊗ y C ⊕ constant C (n 5) ⊗ y C ⊕ constant C (n 4) ⊗ x C ⊕ constant C (n 3)
-      ∷ y C ⊗ y C ⊕ constant C (n 8) ⊗ y C ⊕ constant C (n 7) ⊗ x C ⊕ constant C (n 6)
+      (x C ⊗ x C ⊕ constant C (n 2) ⊗ y C ⊕ constant C (n 1) ⊗ x C ⊕ constant C (n 0))
+      ∷ (x C ⊗ y C ⊕ constant C (n 5) ⊗ y C ⊕ constant C (n 4) ⊗ x C ⊕ constant C (n 3))
+      ∷ (y C ⊗ y C ⊕ constant C (n 8) ⊗ y C ⊕ constant C (n 7) ⊗ x C ⊕ constant C (n 6))
       ∷ []
 
   abbrev pub remaining : Kind → List Car
