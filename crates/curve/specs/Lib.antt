@@ -9,3 +9,6 @@ pub mod Pole
 pub mod Monomial
 pub mod Term
 pub mod Filtration
+pub mod Lead
+pub mod Product
+pub mod Poles

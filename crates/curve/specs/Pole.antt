@@ -5,6 +5,7 @@
 --   pole-x, pole-y     x-power and y-power are the exponents
 --   pole-distinct      normal monomials with the same pole number are the same
 --   Located n, locate  n is the pole number of a normal monomial or a gap
+--   gap-dec            it is decidable which
 --   pole-is-pole, is-pole-pole     the pole numbers of normal monomials are the numbers that are no gaps
 use mathlib.Core.Path.{_≡_, refl, sym, _∙_, ap, subst}
 use mathlib.Core.List.{List, [], _∷_}
@@ -94,3 +95,10 @@ is-pole-pole n p = go (locate n)
     go : Located n → (i j : ℕ) × (j ≤ 2) × (n ≡ pole i j)
     go (place i j h e) = (i, j, h, e)
     go (gap g) = absurd (p g)
+
+pub gap-dec : (n : ℕ) → Dec (IsGap n)
+gap-dec n = go (locate n)
+  where
+    go : Located n → Dec (IsGap n)
+    go (place i j h e) = no (λ d. pole-is-pole i j h (subst IsGap e d))
+    go (gap d) = yes d
