@@ -14,3 +14,4 @@ pub mod Generated
 pub mod Adjoin
 pub mod Finite
 pub mod Span
+pub mod Triple
