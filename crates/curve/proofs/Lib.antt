@@ -1,1 +1,4 @@
 -- Facts on the coordinate ring of a C34 curve.
+pub mod Table
+pub mod Monic
+pub mod Induction
