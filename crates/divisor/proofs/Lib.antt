@@ -4,3 +4,4 @@ pub mod Terms
 pub mod Table
 pub mod Members
 pub mod Divide
+pub mod Basis
