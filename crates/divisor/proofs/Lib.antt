@@ -5,3 +5,5 @@ pub mod Table
 pub mod Members
 pub mod Divide
 pub mod Basis
+pub mod Star
+pub mod Unique
