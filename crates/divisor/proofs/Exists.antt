@@ -9,15 +9,15 @@
 use mathlib.Core.Path.{_≡_, refl, sym, _∙_, ap, ap₂, subst}
 use mathlib.Core.Bool.{Bool, true, false}
 use mathlib.Core.List.{List, [], _∷_, map}
-use mathlib.Core.Logic.{_⊎_, inl, inr, ⊎-elim, _↔_, Iff·symm, Iff·trans}
-use Prim.Native.Nat.{ℕ, zero, suc, _+_, _*_, _≤_, _<_}
+use mathlib.Core.Logic.{inl, inr, ⊎-elim, Iff·symm, Iff·trans}
+use Prim.Native.Nat.{ℕ, zero, suc, _≤_}
 use native.Mathlib.Omega.{arith}
 use native.Mathlib.Decide.{decLe}
 use lib.Dec.{T, eqb, eqb→eq, ltb, ltb→lt}
 use Rattle.algebra.specs.Ring.{CommRing, Field}
 use Rattle.algebra.proofs.Laws as L
-use Rattle.algebra.proofs.Solve.{solve, _⊞_, _⊠_, ⊟_}
-use Rattle.ideal.specs.Ideal.{IsIdeal, Generated, Colon, SameIdeal}
+use Rattle.algebra.proofs.Solve.{solve, _⊞_, ⊟_}
+use Rattle.ideal.specs.Ideal.{Generated, Colon, SameIdeal}
 use Rattle.ideal.specs.Poles.{IsGap, IsPole, Poles}
 use Rattle.ideal.specs.Reduced.{IsReduced}
 use Rattle.ideal.proofs.Gaps.{gap-dec}
@@ -28,18 +28,18 @@ use Rattle.ideal.proofs.Span.{three-pole, four-pole}
 use Rattle.ideal.proofs.Generated.{generated-ideal, generated-in, generated-each}
 use Rattle.ideal.proofs.Reduced.{SmallFootprint, reduced-exists, reduced-footprint, reduced-unique}
 use Rattle.ideal.proofs.Finite.{BasedIdeal, generated-lead, generated-based-ideal}
-use Rattle.curve.specs.Curve.{Curve, Coordinate, constant}
+use Rattle.curve.specs.Curve.{Curve, Coordinate}
 use Rattle.curve.specs.Coefficient.{constant-one}
 use Rattle.curve.specs.Monomial.{coefficient, mono, pick}
 use Rattle.curve.specs.Term.{coefficient-gap, coefficient-neg}
 use Rattle.curve.specs.Filtration.{Below, below-coefficient}
 use Rattle.curve.specs.Product.{below-mono}
 use Rattle.curve.specs.Poles.{poles}
-use Rattle.divisor.specs.Kind.{Kind, k0, k11, k21, k22, k31, count, size, polynomials, IdealOf, IsBasis}
-use Rattle.divisor.proofs.Terms.{Terms, terms, absent, distinct, both, both-left, both-right, unlike, unlike-not, pole-test, pole-test-pole, Within, within-neg, reading, reading-terms}
-use Rattle.divisor.proofs.Table.{degree, Reached, kind-by, pole-by, remaining-poles, reached-large, absent-reached, Row, row, rows, poles-of, fill, row-terms, row-value, polynomials-rows}
+use Rattle.divisor.specs.Kind.{Kind, k0, k11, k21, k22, k31, size, polynomials, IdealOf, IsBasis}
+use Rattle.divisor.proofs.Terms.{terms, absent, distinct, both, both-left, both-right, unlike, unlike-not, pole-test, pole-test-pole, Within, within-neg, reading, reading-terms}
+use Rattle.divisor.proofs.Table.{Reached, kind-by, pole-by, remaining-poles, reached-large, absent-reached, Row, row, rows, poles-of, fill, row-value, polynomials-rows}
 use Rattle.divisor.proofs.Divide.{Clean, clean-zero, Division, divide}
-use Rattle.divisor.proofs.Basis.{Bare, made-bare, basis-lead, basis-footprint}
+use Rattle.divisor.proofs.Basis.{made-bare, basis-lead}
 use Rattle.divisor.proofs.Unique.{SameRecord, record-unique}
 
 reached-pole : (κ : Kind) (m : ℕ) → Reached κ m → IsPole m

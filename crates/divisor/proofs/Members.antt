@@ -7,14 +7,13 @@
 --   reached-lead, lead-reached     its leads are the numbers that the kind reaches
 --   spanned-space, spanned-based, spanned-each
 --   spanned-ideal-of       it lies in the ideal of the record
-use mathlib.Core.Path.{_≡_, refl, sym, _∙_, ap, ap₂, subst}
+use mathlib.Core.Path.{_≡_, refl, sym, _∙_, ap₂, subst}
 use mathlib.Core.List.{List, [], _∷_}
 use mathlib.Core.Logic.{_⊎_, inl, inr, ⊎-elim}
 use Prim.Native.Nat.{ℕ, zero, suc, _+_, _%_, _≤_, _<_}
 use native.Mathlib.Omega.{arith}
 use lib.Dec.{T, eqb, eqb-refl}
 use Rattle.algebra.specs.Ring.{CommRing, Field}
-use Rattle.algebra.proofs.Laws as L
 use Rattle.ideal.specs.Ideal.{IsIdeal}
 use Rattle.ideal.specs.Poles.{IsPole, Poles, HasPole, Monic}
 use Rattle.ideal.proofs.Gaps.{pole-apart, pole-intro}
@@ -25,9 +24,9 @@ use Rattle.ideal.proofs.Generated.{generated-ideal, generated-each}
 use Rattle.ideal.proofs.Span.{Span, span-space, span-each, span-in}
 use Rattle.ideal.proofs.Triple.{Reach, triple-lead, triple-reach, triple-based}
 use Rattle.curve.specs.Curve.{Curve, Coordinate, x, y, constant}
-use Rattle.curve.specs.Monomial.{coefficient, mono, twist, pick}
+use Rattle.curve.specs.Monomial.{coefficient, mono}
 use Rattle.curve.specs.Term.{pick-true}
-use Rattle.curve.specs.Filtration.{Below, below-coefficient, coefficient-below, below-zero, below-step}
+use Rattle.curve.specs.Filtration.{Below, below-coefficient, coefficient-below}
 use Rattle.curve.specs.Lead.{twist-one, top-y}
 use Rattle.curve.specs.Product.{below-mono, coefficient-mono}
 use Rattle.curve.specs.Poles.{poles}
@@ -35,7 +34,7 @@ use Rattle.curve.proofs.Monic.{monic-coefficient, coefficient-monic}
 use Rattle.divisor.specs.Kind.{Kind, k0, k11, k21, k22, k31, polynomials, IdealOf}
 use Rattle.divisor.proofs.Monomials.{mono-one, mono-x, mono-y, mono-xx, mono-xy, mono-yy}
 use Rattle.divisor.proofs.Terms.{Terms, terms, places, distinct, below, coefficient-terms, terms-top, pole-test-pole, pole-test}
-use Rattle.divisor.proofs.Table.{degree, Reached, kind-by, class-by, degree-class, one-term, two-terms, three-terms}
+use Rattle.divisor.proofs.Table.{degree, Reached, class-by, degree-class, one-term, two-terms, three-terms}
 
 module _ {k : CommRing} (C : Curve k) where
   open CommRing (Coordinate C) using (Car as El, one as 𝟏, add as _⊕_, mul as _⊗_)

@@ -1,14 +1,14 @@
 -- The coefficients of normal monomials, and the first of these monomials by name.
 --   coefficient-mono-other     the coefficient of mono n at another place than n is 0
 --   mono-one … mono-yy         the normal monomials of pole numbers 0, 3, 4, 6, 7, 8 are 1, x, y, x², xy, y²
-use mathlib.Core.Path.{_≡_, refl, sym, _∙_, ap, ap₂, subst}
-use mathlib.Core.List.{List, [], _∷_}
-use Prim.Native.Nat.{ℕ, zero, suc, _+_, _*_, _-_, _≤_, _<_}
+use mathlib.Core.Path.{_≡_, refl, _∙_, ap, ap₂}
+use mathlib.Core.List.{[], _∷_}
+use Prim.Native.Nat.{ℕ, zero, suc, _+_, _≤_}
 use native.Mathlib.Omega.{arith}
 use Rattle.algebra.specs.Ring.{CommRing}
 use Rattle.algebra.proofs.Laws as L
-use Rattle.ideal.specs.Poles.{IsGap, IsPole}
-use Rattle.curve.specs.Curve.{Curve, Coordinate, x, y, constant, at}
+use Rattle.ideal.specs.Poles.{IsPole}
+use Rattle.curve.specs.Curve.{Curve, Coordinate, x, y, at}
 use Rattle.curve.specs.Back.{weigh-vanish}
 use Rattle.curve.specs.Coefficient.{at-one-x, at-one-y, at-x-first, at-x-next, at-y-0, at-y-1, at-y-2}
 use Rattle.curve.specs.Pole.{pole, Located, place, gap, locate}

@@ -13,15 +13,14 @@
 use mathlib.Core.Path.{_≡_, refl, sym, _∙_, ap, ap₂, subst}
 use mathlib.Core.Bool.{Bool, true, false}
 use mathlib.Core.List.{List, [], _∷_, map}
-use Prim.Native.Nat.{ℕ, suc, _≤_, _<_}
+use Prim.Native.Nat.{ℕ, _≤_, _<_}
 use native.Mathlib.Omega.{arith}
 use lib.Dec.{T, eqb, eqb→eq, eqb-refl, ltb, ltb→lt}
 use Rattle.algebra.specs.Ring.{CommRing}
 use Rattle.algebra.proofs.Laws as L
-use Rattle.ideal.specs.Poles.{IsGap, IsPole}
+use Rattle.ideal.specs.Poles.{IsPole}
 use Rattle.ideal.proofs.Gaps.{pole-intro}
 use Rattle.curve.specs.Curve.{Curve, Coordinate, constant}
-use Rattle.curve.specs.Coefficient.{constant-one}
 use Rattle.curve.specs.Monomial.{coefficient, mono, pick}
 use Rattle.curve.specs.Term.{coefficient-zero, coefficient-add, coefficient-neg, coefficient-constant-mul, coefficient-ext}
 use Rattle.curve.specs.Product.{coefficient-mono}

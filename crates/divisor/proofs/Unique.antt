@@ -1,14 +1,14 @@
 -- Two bases with the same ideal are the same record.
---   SameRecord κ n κ′ n′   the same kind and the same numbers
+--   SameRecord κ n κ′ n′   the same kind and the same numbers, as many as the kind has
+--   rows-right, all-placed tests of the table of rows: lower terms remain, and each number of a record has its place
 --   degree-same            bases with the same ideal have the same degrees
 --   kind-same              kinds with the same degrees are the same
---   row-same               the same row in one ideal has the same numbers
+--   row-coefficient        the coefficients of a polynomial of a record are found in its terms
 --   record-unique          bases with the same ideal are the same record
 use mathlib.Core.Path.{_≡_, refl, sym, _∙_, ap, ap₂, subst}
 use mathlib.Core.Bool.{Bool, true, false}
 use mathlib.Core.List.{List, [], _∷_, map}
-use mathlib.Core.Logic.{_↔_}
-use Prim.Native.Nat.{ℕ, zero, suc, _+_, _%_, _≤_, _<_}
+use Prim.Native.Nat.{ℕ, zero, suc, _≤_, _<_}
 use native.Mathlib.Omega.{arith}
 use native.Mathlib.Decide.{ℕ-discrete}
 use lib.Dec.{T, eqb, eqb→eq, eqb-refl}
@@ -24,7 +24,7 @@ use Rattle.curve.specs.Monomial.{coefficient, pick}
 use Rattle.curve.specs.Term.{coefficient-add, coefficient-neg, pick-true}
 use Rattle.curve.specs.Poles.{poles}
 use Rattle.divisor.specs.Kind.{Kind, k0, k11, k21, k22, k31, count, polynomials, IdealOf, IsBasis}
-use Rattle.divisor.proofs.Terms.{Terms, terms, find, places, pole-test, absent, distinct, both, both-left, both-right, unlike, unlike-not, find-absent, coefficient-terms}
+use Rattle.divisor.proofs.Terms.{Terms, find, places, pole-test, absent, distinct, both, both-left, both-right, unlike, unlike-not, find-absent, coefficient-terms}
 use Rattle.divisor.proofs.Table.{degree, Reached, kind-by, degree-class, remaining-poles, reached-absent, Row, rows, poles-of, fill, row-terms, row-value, polynomials-rows}
 use Rattle.divisor.proofs.Basis.{Bare, bare-made, basis-lead, lead-basis}
 
@@ -129,7 +129,7 @@ module _ {k : CommRing} (C : Curve k) where
   fill-places n [] = refl
   fill-places n ((i, p) ∷ t) = ap (λ ps. p ∷ ps) (fill-places n t)
 
-  row-coefficient : (n : ℕ → Car) (r : Row) → T (distinct (r .lead ∷ poles-of (r .tail))) → (m : ℕ) → coefficient C m (row-value C n r) ≡ find C m (row-terms C n r)
+  pub row-coefficient : (n : ℕ → Car) (r : Row) → T (distinct (r .lead ∷ poles-of (r .tail))) → (m : ℕ) → coefficient C m (row-value C n r) ≡ find C m (row-terms C n r)
   row-coefficient n r t m =
       coefficient-terms C (row-terms C n r) (subst (λ ps. T (distinct (r .lead ∷ ps))) (sym (fill-places n (r .tail))) t) m
 
