@@ -1,7 +1,7 @@
 -- Division by a based space U: every element is an element of U and a rest without coefficients at the leads of U.
 --   Clean U r              r has no coefficient at a lead of U
 --   clean-zero             a clean element of U is zero
---   Division, divide       g ≡ rest ⊕ part, the rest clean, the part in U; both as low as g
+--   Division, divide       g ≡ rest ⊕ part, the rest clean and as low as g, the part in U
 use mathlib.Core.Path.{_≡_, sym, _∙_, ap, ap₂, subst}
 use mathlib.Core.Logic.{⊎-elim}
 use Prim.Native.Nat.{ℕ, zero, suc, _≤_, _<_}
