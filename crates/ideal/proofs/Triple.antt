@@ -1,21 +1,22 @@
 -- The leads of a span over k[x] of three elements whose pole numbers lie in the three classes modulo 3.
 --   Reach d n          d ≤ n, and n and d lie in the same class modulo 3
+--   reach-dec          … is decidable
 --   span-reach         b in the span, of pole number d: the span has each lead that d reaches
 --   span-step          one more element b adds the leads that its pole number reaches
 --   triple-lead        each lead of the span is reached by one of the three pole numbers
 --   triple-reach       … and each number so reached is a lead
 --   triple-based       so the span is based
+--   triple-lowest      its pole numbers are at least the lowest of the three
 use mathlib.Core.Path.{_≡_, refl, sym, _∙_, ap, subst}
-use mathlib.Core.Logic.{_⊎_, inl, inr, ⊎-elim, _↔_}
+use mathlib.Core.Logic.{_⊎_, inl, inr, ⊎-elim}
 use mathlib.Core.List.{List, [], _∷_}
-use Prim.Native.Nat.{ℕ, suc, _+_, _*_, _-_, _/_, _%_, _≤_, _<_}
+use Prim.Native.Nat.{ℕ, _*_, _-_, _/_, _%_, _≤_}
 use native.Mathlib.Decide.{ℕ-discrete, decLe}
 use native.Mathlib.Omega.{arith}
 use Rattle.algebra.specs.Ring.{CommRing}
 use Rattle.algebra.proofs.Laws as laws
 use Rattle.ideal.specs.Poles.{Poles, HasPole}
 use Rattle.ideal.proofs.Degree.{degree, pole-cong, pole-mul, pole-nonzero, pole-unique}
-use Rattle.ideal.proofs.Every.{Every}
 use Rattle.ideal.proofs.Leads.{Lead, Based}
 use Rattle.ideal.proofs.Adjoin.{sum-lead}
 use Rattle.ideal.proofs.Span.{InX, inx-pole, Span, span-x, span-each, x-lead}
@@ -32,9 +33,8 @@ reach-dec d n = go (decLe d n) (ℕ-discrete (n % 3) (d % 3))
     go (no l) e = no (λ r. l (r .0))
 
 module _ {R : CommRing} (P : Poles R) where
-  open CommRing R using (Car, zero, one, add as _⊕_, mul as _⊗_)
+  open CommRing R using (Car, zero, mul as _⊗_)
 
-  infixl 60 _⊕_
   infixl 70 _⊗_
   pub span-reach : (bs : List Car) {b : Car} {d n : ℕ} → Span P bs b → HasPole P b d → Reach d n → Lead P (Span P bs) n
   span-reach bs {b} {d} {n} m p (l, e) = subst (Lead P (Span P bs)) (omega arith) (x-lead P (span-x P bs) ((n - d) / 3) (b, m, p))
@@ -48,15 +48,18 @@ module _ {R : CommRing} (P : Poles R) where
   ray-lead {b} {d} {n} pb (h, (p, i, e), ph) = go (degree P p)
     where
       at : {m : ℕ} → HasPole P p m → (j : ℕ) × (m ≡ 3 * j) → Reach d n
-      at {m} pp (j, e′) = (omega (arith, pole-unique P ph (pole-cong P (sym e) (pole-mul P pp pb))), omega (arith, pole-unique P ph (pole-cong P (sym e) (pole-mul P pp pb))))
+      at {m} pp (j, e′) =
+          (omega (arith, pole-unique P ph (pole-cong P (sym e) (pole-mul P pp pb))), omega (arith, pole-unique P ph (pole-cong P (sym e) (pole-mul P pp pb))))
 
       go : (p ≡ zero) ⊎ ((m : ℕ) × HasPole P p m) → Reach d n
       go (inl z) = absurd (pole-nonzero P ph (e ∙ ap (λ t. t ⊗ b) z ∙ laws.zero-mul R b))
       go (inr (m, pp)) = at pp (inx-pole P i pp)
 
-  pub span-step : (bs : List Car) {b : Car} {d n : ℕ} → HasPole P b d → ((m : ℕ) → Lead P (Span P bs) m → ¬ Reach d m) → Lead P (Span P (b ∷ bs)) n → Reach d n ⊎ Lead P (Span P bs) n
+  pub span-step : (bs : List Car) {b : Car} {d n : ℕ} → HasPole P b d → ((m : ℕ) → Lead P (Span P bs) m → ¬ Reach d m) → Lead P (Span P (b ∷ bs)) n
+      → Reach d n ⊎ Lead P (Span P bs) n
   unfolding Ray
-  span-step bs {b} {d} {n} pb apart (h, (p, s, i, m, e), ph) = ⊎-elim (λ l. inl (ray-lead pb l)) inr (sum-lead P {U = Ray b} {W = Span P bs} (λ k lr ls. apart k ls (ray-lead pb lr)) (p, i, refl) m (pole-cong P e ph))
+  span-step bs {b} {d} {n} pb apart (h, (p, s, i, m, e), ph) =
+      ⊎-elim (λ l. inl (ray-lead pb l)) inr (sum-lead P {U = Ray b} {W = Span P bs} (λ k lr ls. apart k ls (ray-lead pb lr)) (p, i, refl) m (pole-cong P e ph))
 
   module _ {b₀ b₁ b₂ : Car} {d₀ d₁ d₂ : ℕ} (p₀ : HasPole P b₀ d₀) (p₁ : HasPole P b₁ d₁) (p₂ : HasPole P b₂ d₂) (a₀₁ : ¬ (d₀ % 3 ≡ d₁ % 3)) (a₀₂ : ¬ (d₀ % 3 ≡ d₂ % 3)) (a₁₂ : ¬ (d₁ % 3 ≡ d₂ % 3)) where
     last-lead : (n : ℕ) → Lead P (Span P (b₂ ∷ [])) n → Reach d₂ n
@@ -66,7 +69,9 @@ module _ {R : CommRing} (P : Poles R) where
     two-lead n l = ⊎-elim inl (λ l. inr (last-lead n l)) (span-step (b₂ ∷ []) p₁ (λ m l r. a₁₂ (sym (r .1) ∙ last-lead m l .1)) l)
 
     pub triple-lead : (n : ℕ) → Lead P (Span P (b₀ ∷ b₁ ∷ b₂ ∷ [])) n → Reach d₀ n ⊎ (Reach d₁ n ⊎ Reach d₂ n)
-    triple-lead n l = ⊎-elim inl (λ l. inr (two-lead n l)) (span-step (b₁ ∷ b₂ ∷ []) p₀ (λ m l r. ⊎-elim (λ q. a₀₁ (sym (r .1) ∙ q .1)) (λ q. a₀₂ (sym (r .1) ∙ q .1)) (two-lead m l)) l)
+    triple-lead n l =
+        ⊎-elim inl (λ l. inr (two-lead n l))
+        (span-step (b₁ ∷ b₂ ∷ []) p₀ (λ m l r. ⊎-elim (λ q. a₀₁ (sym (r .1) ∙ q .1)) (λ q. a₀₂ (sym (r .1) ∙ q .1)) (two-lead m l)) l)
 
     pub triple-reach : (n : ℕ) → Reach d₀ n ⊎ (Reach d₁ n ⊎ Reach d₂ n) → Lead P (Span P (b₀ ∷ b₁ ∷ b₂ ∷ [])) n
     triple-reach n (inl r) = span-reach (b₀ ∷ b₁ ∷ b₂ ∷ []) (span-each P (b₀ ∷ b₁ ∷ b₂ ∷ []) .0) p₀ r
@@ -81,3 +86,6 @@ module _ {R : CommRing} (P : Poles R) where
         go (no a) (yes r) c = yes (triple-reach n (inr (inl r)))
         go (no a) (no b) (yes r) = yes (triple-reach n (inr (inr r)))
         go (no a) (no b) (no c) = no (λ l. ⊎-elim a (⊎-elim b c) (triple-lead n l))
+
+    pub triple-lowest : {d : ℕ} → d ≤ d₀ → d ≤ d₁ → d ≤ d₂ → (h : Car) (n : ℕ) → Span P (b₀ ∷ b₁ ∷ b₂ ∷ []) h → HasPole P h n → d ≤ n
+    triple-lowest {d} l₀ l₁ l₂ h n m p = ⊎-elim (λ r. omega arith) (⊎-elim (λ r. omega arith) (λ r. omega arith)) (triple-lead n (h, m, p))

@@ -1,0 +1,2 @@
+-- What the loops require.
+pub mod Contract

@@ -1,0 +1,2 @@
+-- The primes that the checks use.
+pub mod Primes

@@ -1,0 +1,90 @@
+-- `field_test::five`: each check follows from what the function called ensures, read as a number.
+use mathlib.Core.Path.{refl}
+use native.Mathlib.Omega.{arith}
+use borrow.Author.Tests.{eq-eqb}
+use Rattle.field.proofs.Number.{difference-number, inverse-number, negative-number, product-difference-number, product-number, product-sum-number, sum-number}
+use Rattle.field_test.proofs.Primes.{prime-5}
+use borrow.Author.Needs.{needs}
+use Rattle.field_test.proofs.five.Statement.{statement}
+use Rattle.field_test.proofs.five.Tie as tie
+
+add-requires : tie.Need-add-requires
+add-requires c κs = search needs
+
+expect-requires : tie.Need-expect-requires
+expect-requires c κs = eq-eqb (c .add .result) 2 (sum-number 5 (c .add .result) 3 4 (c .add .ensures))
+
+sub-requires : tie.Need-sub-requires
+sub-requires c κs = search needs
+
+expect-requires-2 : tie.Need-expect-requires-2
+expect-requires-2 c κs = eq-eqb (c .sub .result) 1 (difference-number 5 (c .sub .result) 4 3 (omega arith) (c .sub .ensures))
+
+neg-requires : tie.Need-neg-requires
+neg-requires c κs = search needs
+
+expect-requires-3 : tie.Need-expect-requires-3
+expect-requires-3 c κs = eq-eqb (c .neg .result) 3 (negative-number 5 (c .neg .result) 2 (omega arith) (c .neg .ensures))
+
+mul-requires : tie.Need-mul-requires
+mul-requires c κs = search needs
+
+expect-requires-4 : tie.Need-expect-requires-4
+expect-requires-4 c κs = eq-eqb (c .mul .result) 2 (product-number 5 (c .mul .result) 3 4 (c .mul .ensures))
+
+mul-add-requires : tie.Need-mul-add-requires
+mul-add-requires c κs = search needs
+
+expect-requires-5 : tie.Need-expect-requires-5
+expect-requires-5 c κs = eq-eqb (c .mul-add .result) 1 (product-sum-number 5 (c .mul-add .result) 4 3 4 (c .mul-add .ensures))
+
+mul-sub-requires : tie.Need-mul-sub-requires
+mul-sub-requires c κs = search needs
+
+expect-requires-6 : tie.Need-expect-requires-6
+expect-requires-6 c κs = eq-eqb (c .mul-sub .result) 2 (product-difference-number 5 (c .mul-sub .result) 3 3 1 (omega arith) (c .mul-sub .ensures))
+
+inverse-requires : tie.Need-inverse-requires
+inverse-requires c κs = record { prime = prime-5; below = omega arith }
+
+expect-requires-7 : tie.Need-expect-requires-7
+expect-requires-7 c κs = eq-eqb (c .inverse .result) 3 (inverse-number 5 (c .inverse .result) 2 3 prime-5 (omega arith) (omega arith) (omega arith) refl (c .inverse .ensures))
+
+inverse-requires-2 : tie.Need-inverse-requires-2
+inverse-requires-2 c κs = record { prime = prime-5; below = omega arith }
+
+expect-requires-8 : tie.Need-expect-requires-8
+expect-requires-8 c κs = eq-eqb (c .inverse2 .result) 2 (inverse-number 5 (c .inverse2 .result) 3 2 prime-5 (omega arith) (omega arith) (omega arith) refl (c .inverse2 .ensures))
+
+inverse-requires-3 : tie.Need-inverse-requires-3
+inverse-requires-3 c κs = record { prime = prime-5; below = omega arith }
+
+expect-requires-9 : tie.Need-expect-requires-9
+expect-requires-9 c κs = eq-eqb (c .inverse3 .result) 4 (inverse-number 5 (c .inverse3 .result) 4 4 prime-5 (omega arith) (omega arith) (omega arith) refl (c .inverse3 .ensures))
+
+returns : tie.Need-returns
+returns c = search needs
+
+pub five-spec : {M : Type 1} → statement M
+five-spec =
+    tie.close
+    (tie.spec
+    add-requires
+    expect-requires
+    sub-requires
+    expect-requires-2
+    neg-requires
+    expect-requires-3
+    mul-requires
+    expect-requires-4
+    mul-add-requires
+    expect-requires-5
+    mul-sub-requires
+    expect-requires-6
+    inverse-requires
+    expect-requires-7
+    inverse-requires-2
+    expect-requires-8
+    inverse-requires-3
+    expect-requires-9
+    returns)
