@@ -2,3 +2,7 @@
 pub mod Table
 pub mod Monic
 pub mod Induction
+pub mod Multiple
+pub mod Equation
+pub mod Vector
+pub mod Monomial
