@@ -1,23 +1,23 @@
 -- Classes of ideals and their records: what the calls cite.
---   star-exists            J* is the ideal of a basis
---   star-unique            … of one only
+--   star-record            J* is the ideal of a basis
+--   star-same              … of one only
 --   star-twice             a record of (J*)* is one of the reduced ideal of J
 --   equivalent-record      a basis whose ideal is equivalent to J has the reduced ideal of J
 --   record-equivalent      J is equivalent to the ideal of the record of its reduced ideal
 --   reduced-same           two bases with the reduced ideal of J are the same record
 --   class-same             two bases with equivalent ideals are the same record
 --   zero-basis, zero-whole the record of kind 0 is a basis, and its ideal is the whole ring
-use mathlib.Core.Path.{_≡_, refl, subst}
-use mathlib.Core.Logic.{Iff·symm, Iff·trans}
+use mathlib.Core.Path.{_≡_, refl}
 use Prim.Native.Nat.{ℕ}
 use Rattle.algebra.specs.Ring.{CommRing, Field}
 use Rattle.algebra.proofs.Solve.{solve, _⊞_, _⊠_}
 use Rattle.algebra.proofs.Norm.{unit, nil}
 use Rattle.ideal.specs.Ideal.{IsIdeal, Colon, SameIdeal, Equivalent}
 use Rattle.ideal.specs.Poles.{Poles}
-use Rattle.ideal.specs.Reduced.{Least, IsStar, IsReduced}
-use Rattle.ideal.proofs.Leads.{ideal-space, least, least-unique}
-use Rattle.ideal.proofs.Reduced.{star-footprint, star-star, equivalent-reduced, reduced-equivalent, reduced-unique, footprint-class}
+use Rattle.ideal.specs.Reduced.{IsStar, IsReduced}
+use Rattle.ideal.proofs.Same.{same-sym, same-trans}
+use Rattle.ideal.proofs.Reduced.{star-star, equivalent-reduced, reduced-equivalent, reduced-unique, footprint-class}
+use Rattle.ideal.proofs.Star.{star-exists, star-unique, star-small}
 use Rattle.ideal.proofs.Finite.{BasedIdeal}
 use Rattle.curve.specs.Curve.{Curve, Coordinate}
 use Rattle.curve.specs.Poles.{poles}
@@ -34,14 +34,16 @@ module _ (K : Field) (C : Curve (K .ring)) (nonzero : ¬ (C .a0 ≡ K .ring .zer
   abbrev P : Poles (Coordinate C)
   P = poles K C nonzero
 
-  pub star-exists : {J : El → Type 0} → BasedIdeal P J → (κ : Kind) × (n : ℕ → K .ring .Car) × IsBasis C κ n × IsStar P J (IdealOf C κ n)
-  star-exists {J} j = go (least P (ideal-space P (j .ideal)) (j .based) (j .lead))
+  pub star-record : {J : El → Type 0} → BasedIdeal P J → (κ : Kind) × (n : ℕ → K .ring .Car) × IsBasis C κ n × IsStar P J (IdealOf C κ n)
+  star-record {J} j = go (star-exists P j)
     where
-      at : (f : El) → Least P J f → (κ : Kind) × (n : ℕ → K .ring .Car) × IsBasis C κ n × SameIdeal (Coordinate C) (Colon (Coordinate C) f J) (IdealOf C κ n) → (κ : Kind) × (n : ℕ → K .ring .Car) × IsBasis C κ n × IsStar P J (IdealOf C κ n)
-      at f l (κ, n, b, e) = (κ, n, b, record { f = f; least = l; same = λ g. Iff·symm (e g) })
+      at : (f : El) → IsStar P J (Colon (Coordinate C) f J)
+          → (κ : Kind) × (n : ℕ → K .ring .Car) × IsBasis C κ n × SameIdeal (Coordinate C) (Colon (Coordinate C) f J) (IdealOf C κ n)
+          → (κ : Kind) × (n : ℕ → K .ring .Car) × IsBasis C κ n × IsStar P J (IdealOf C κ n)
+      at f s (κ, n, b, e) = (κ, n, b, record { f = s .f; least = s .least; same = same-trans (Coordinate C) (same-sym (Coordinate C) e) (s .same) })
 
-      go : (f : El) × Least P J f → (κ : Kind) × (n : ℕ → K .ring .Car) × IsBasis C κ n × IsStar P J (IdealOf C κ n)
-      go (f, l) = at f l (record-exists K C nonzero (star-footprint P (j .ideal) (j .based) l))
+      go : (f : El) × IsStar P J (Colon (Coordinate C) f J) → (κ : Kind) × (n : ℕ → K .ring .Car) × IsBasis C κ n × IsStar P J (IdealOf C κ n)
+      go (f, s) = at f s (record-exists K C nonzero (star-small P j s))
 
   module _ (κ : Kind) (n : ℕ → K .ring .Car) where
     pub star-twice : {J A : El → Type 0} → IsStar P J A → IsStar P A (IdealOf C κ n) → IsReduced P J (IdealOf C κ n)
@@ -54,9 +56,8 @@ module _ (K : Field) (C : Curve (K .ring)) (nonzero : ¬ (C .a0 ≡ K .ring .zer
     record-equivalent j r = reduced-equivalent P (j .ideal) (j .based) r
 
   module _ (κ κ′ : Kind) (n n′ : ℕ → K .ring .Car) (b : IsBasis C κ n) (b′ : IsBasis C κ′ n′) where
-    pub star-unique : {J : El → Type 0} → IsIdeal (Coordinate C) J → IsStar P J (IdealOf C κ n) → IsStar P J (IdealOf C κ′ n′) → SameRecord κ n κ′ n′
-    star-unique {J} j s t =
-        record-unique K C nonzero κ κ′ n n′ b b′ (λ g. Iff·trans (subst (λ f. SameIdeal (Coordinate C) (IdealOf C κ n) (Colon (Coordinate C) f J)) (least-unique P (ideal-space P j) (s .least) (t .least)) (s .same) g) (Iff·symm (t .same g)))
+    pub star-same : {J : El → Type 0} → IsIdeal (Coordinate C) J → IsStar P J (IdealOf C κ n) → IsStar P J (IdealOf C κ′ n′) → SameRecord κ n κ′ n′
+    star-same j s t = record-unique K C nonzero κ κ′ n n′ b b′ (star-unique P j s t)
 
     pub reduced-same : {J : El → Type 0} → IsIdeal (Coordinate C) J → IsReduced P J (IdealOf C κ n) → IsReduced P J (IdealOf C κ′ n′) → SameRecord κ n κ′ n′
     reduced-same j r r′ = record-unique K C nonzero κ κ′ n n′ b b′ (reduced-unique P j r r′)

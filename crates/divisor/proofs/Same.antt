@@ -6,11 +6,11 @@
 use mathlib.Core.Path.{_≡_, refl, sym, _∙_, ap, ap₂, subst}
 use mathlib.Core.Bool.{Bool, true}
 use mathlib.Core.List.{List, [], _∷_, map}
-use mathlib.Core.Logic.{Iff·rfl}
 use Prim.Native.Nat.{ℕ, _<_}
 use lib.Dec.{T, ltb, ltb→lt}
 use Rattle.algebra.specs.Ring.{CommRing, Field}
 use Rattle.ideal.specs.Ideal.{Generated, SameIdeal, Equivalent}
+use Rattle.ideal.proofs.Same.{same-refl}
 use Rattle.ideal.proofs.Class.{equivalent-same}
 use Rattle.curve.specs.Curve.{Curve, Coordinate}
 use Rattle.curve.specs.Poles.{poles}
@@ -51,7 +51,7 @@ module _ {k : CommRing} (C : Curve k) where
         ∙ ap (λ κ″. polynomials C κ″ n′) (s .kind)
 
     pub same-ideal : SameIdeal (Coordinate C) (IdealOf C κ n) (IdealOf C κ′ n′)
-    same-ideal = subst (λ gs. SameIdeal (Coordinate C) (IdealOf C κ n) (Generated (Coordinate C) gs)) polynomials-same (λ g. Iff·rfl)
+    same-ideal = subst (λ gs. SameIdeal (Coordinate C) (IdealOf C κ n) (Generated (Coordinate C) gs)) polynomials-same (same-refl (Coordinate C) (IdealOf C κ n))
 
     pub same-basis : IsBasis C κ n → IsBasis C κ′ n′
     same-basis b h i w = b h (same-ideal h .1 i) (subst (λ κ″. MadeOf C (remaining C κ″) h) (sym (s .kind)) w)

@@ -5,13 +5,13 @@
 use mathlib.Core.Path.{_≡_, refl, sym, subst}
 use mathlib.Core.Bool.{Bool, true, false}
 use mathlib.Core.List.{List, [], _∷_}
-use mathlib.Core.Logic.{Iff·symm, Iff·trans}
 use Prim.Native.Nat.{ℕ, _+_}
 use lib.Dec.{T, eqb, eqb→eq}
 use Rattle.algebra.specs.Ring.{CommRing, Field}
 use Rattle.ideal.specs.Ideal.{Colon, SameIdeal}
 use Rattle.ideal.specs.Poles.{largest-gap, IsPole, Poles, HasPole}
 use Rattle.ideal.specs.Reduced.{Least, IsStar}
+use Rattle.ideal.proofs.Same.{same-sym, same-trans}
 use Rattle.ideal.proofs.Every.{Every}
 use Rattle.ideal.proofs.Leads.{Lead}
 use Rattle.ideal.proofs.Colon.{colon-ideal}
@@ -60,7 +60,7 @@ module _ (K : Field) (C : Curve (K .ring)) (nonzero : ¬ (C .a0 ≡ K .ring .zer
 
       pub colon-recognised : IsBasis C κ n × SameIdeal (Coordinate C) (IdealOf C κ n) (Colon (Coordinate C) f J)
       colon-recognised =
-          (closed-basis K C nonzero κ n colon-closed, λ g. Iff·trans (Iff·symm (closed-same K C nonzero κ n colon-closed g)) (spanned-colon g))
+          (closed-basis K C nonzero κ n colon-closed, same-trans (Coordinate C) (same-sym (Coordinate C) (closed-same K C nonzero κ n colon-closed)) spanned-colon)
 
     pub star-recognised : {J : El → Type 0} {f : El} {d : ℕ} → Least P J f → HasPole P f d → Matched J κ d → Every (Colon (Coordinate C) f J) (polynomials C κ n) → IsBasis C κ n × IsStar P J (IdealOf C κ n)
     star-recognised {J} {f} l pf met ms = (found .0, record { f = f; least = l; same = found .1 })

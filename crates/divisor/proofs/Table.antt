@@ -73,10 +73,22 @@ class-by Q a b c (suc (suc zero)) l = c
 class-by Q a b c (suc (suc (suc j))) l = absurd (omega arith)
 
 pub degree-class : (κ : Kind) (j : ℕ) → j ≤ 2 → degree κ j % 3 ≡ j
-degree-class = kind-by (λ κ. (j : ℕ) → j ≤ 2 → degree κ j % 3 ≡ j) (class-by _ refl refl refl) (class-by _ refl refl refl) (class-by _ refl refl refl) (class-by _ refl refl refl) (class-by _ refl refl refl)
+degree-class =
+    kind-by (λ κ. (j : ℕ) → j ≤ 2 → degree κ j % 3 ≡ j)
+    (class-by _ refl refl refl)
+    (class-by _ refl refl refl)
+    (class-by _ refl refl refl)
+    (class-by _ refl refl refl)
+    (class-by _ refl refl refl)
 
 pub degree-bound : (κ : Kind) (j : ℕ) → j ≤ 2 → degree κ j ≤ 6 + j
-degree-bound = kind-by (λ κ. (j : ℕ) → j ≤ 2 → degree κ j ≤ 6 + j) (class-by _ (omega arith) (omega arith) (omega arith)) (class-by _ (omega arith) (omega arith) (omega arith)) (class-by _ (omega arith) (omega arith) (omega arith)) (class-by _ (omega arith) (omega arith) (omega arith)) (class-by _ (omega arith) (omega arith) (omega arith))
+degree-bound =
+    kind-by (λ κ. (j : ℕ) → j ≤ 2 → degree κ j ≤ 6 + j)
+    (class-by _ (omega arith) (omega arith) (omega arith))
+    (class-by _ (omega arith) (omega arith) (omega arith))
+    (class-by _ (omega arith) (omega arith) (omega arith))
+    (class-by _ (omega arith) (omega arith) (omega arith))
+    (class-by _ (omega arith) (omega arith) (omega arith))
 
 pub reached-large : (κ : Kind) (m : ℕ) → 6 ≤ m → Reached κ m
 reached-large κ m l = omega (arith, degree-bound κ (m % 3) (omega arith))
@@ -182,7 +194,8 @@ module _ {k : CommRing} (C : Curve k) where
   pub two-terms : {v w : El} (d p : ℕ) (b a : Car) → mono C d ≡ v → mono C p ≡ w → v ⊕ constant C b ⊗ w ⊕ constant C a ≡ terms C ((𝟙, d) ∷ (b, p) ∷ (a, 0) ∷ [])
   two-terms d p b a e f = shape-2 (Coordinate C) (constant-one C) (mono-one C) e f
 
-  pub three-terms : {v u w : El} (d q p : ℕ) (c b a : Car) → mono C d ≡ v → mono C q ≡ u → mono C p ≡ w → v ⊕ constant C c ⊗ u ⊕ constant C b ⊗ w ⊕ constant C a ≡ terms C ((𝟙, d) ∷ (c, q) ∷ (b, p) ∷ (a, 0) ∷ [])
+  pub three-terms : {v u w : El} (d q p : ℕ) (c b a : Car) → mono C d ≡ v → mono C q ≡ u → mono C p ≡ w
+      → v ⊕ constant C c ⊗ u ⊕ constant C b ⊗ w ⊕ constant C a ≡ terms C ((𝟙, d) ∷ (c, q) ∷ (b, p) ∷ (a, 0) ∷ [])
   three-terms d q p c b a e f g = shape-3 (Coordinate C) (constant-one C) (mono-one C) e f g
 
   pub polynomials-rows : (n : ℕ → Car) (κ : Kind) → polynomials C κ n ≡ map (row-value n) (rows κ)

@@ -147,8 +147,10 @@ module _ {k : CommRing} (C : Curve k) where
   module _ (n n′ : ℕ → Car) where
     fill-agree : (t : List (ℕ × ℕ)) → T (distinct (poles-of t)) → ((m : ℕ) → find C m (fill C n t) ≡ find C m (fill C n′ t)) → Agree n n′ t
     fill-agree [] u e = tt
-    fill-agree ((i, p) ∷ t) u e =
-        (sym (pick-true (eqb p p) (n i) (find C p (fill C n t)) (eqb-refl p)) ∙ e p ∙ pick-true (eqb p p) (n′ i) (find C p (fill C n′ t)) (eqb-refl p), fill-agree t (both-right (absent p (poles-of t)) (distinct (poles-of t)) v) (tail-same (n i) (n′ i) p (fill C n t) (fill C n′ t) (fill-absent n t p w) (fill-absent n′ t p w) e))
+    fill-agree ((i, p) ∷ t) u e = (
+      sym (pick-true (eqb p p) (n i) (find C p (fill C n t)) (eqb-refl p)) ∙ e p ∙ pick-true (eqb p p) (n′ i) (find C p (fill C n′ t)) (eqb-refl p),
+      fill-agree t (both-right (absent p (poles-of t)) (distinct (poles-of t)) v) (tail-same (n i) (n′ i) p (fill C n t) (fill C n′ t) (fill-absent n t p w) (fill-absent n′ t p w) e),
+    )
       where
         v : T (both (absent p (poles-of t)) (distinct (poles-of t)))
         v = both-right (pole-test p) (both (absent p (poles-of t)) (distinct (poles-of t))) u
@@ -177,7 +179,9 @@ module _ {k : CommRing} (C : Curve k) where
 
       value-agree : row-value C n r ≡ row-value C n′ r → Agree n n′ (r .tail)
       value-agree e =
-          fill-agree (r .tail) (both-right (absent (r .lead) ps) (distinct ps) v) (tail-same 𝟙 𝟙 (r .lead) (fill C n (r .tail)) (fill C n′ (r .tail)) (fill-absent n (r .tail) (r .lead) w) (fill-absent n′ (r .tail) (r .lead) w) (λ m. sym (row-coefficient n r apart m) ∙ ap (coefficient C m) e ∙ row-coefficient n′ r apart m))
+          fill-agree (r .tail) (both-right (absent (r .lead) ps) (distinct ps) v)
+          (tail-same 𝟙 𝟙 (r .lead) (fill C n (r .tail)) (fill C n′ (r .tail)) (fill-absent n (r .tail) (r .lead) w) (fill-absent n′ (r .tail) (r .lead) w)
+          (λ m. sym (row-coefficient n r apart m) ∙ ap (coefficient C m) e ∙ row-coefficient n′ r apart m))
         where
           ps : List ℕ
           ps = poles-of (r .tail)
@@ -209,7 +213,8 @@ module _ (K : Field) (C : Curve (K .ring)) (nonzero : ¬ (C .a0 ≡ K .ring .zer
       one : (r : Row) → T (row-test κ r) → IdealOf C κ n (row-value C n r) → IdealOf C κ n′ (row-value C n′ r) → Agree n n′ (r .tail)
       one r t a b = value-agree C n n′ κ r t (L.sub-zero→eq (Coordinate C) _ _ (basis _ (I .sum a (space-neg P (ideal-space P I) (e _ .1 b))) (bare-made C κ _ (difference-bare C n n′ κ r t))))
 
-      go : (rs : List Row) → Every (λ r. T (row-test κ r)) rs → Every (IdealOf C κ n) (map (row-value C n) rs) → Every (IdealOf C κ n′) (map (row-value C n′) rs) → Every (λ r. Agree n n′ (r .tail)) rs
+      go : (rs : List Row) → Every (λ r. T (row-test κ r)) rs → Every (IdealOf C κ n) (map (row-value C n) rs) → Every (IdealOf C κ n′) (map (row-value C n′) rs)
+          → Every (λ r. Agree n n′ (r .tail)) rs
       go [] _ _ _ = tt
       go (r ∷ rs) (t, ts) (a, bs) (a′, bs′) = (one r t a a′, go rs ts bs bs′)
 
