@@ -1,0 +1,1 @@
+-- Facts on the coordinate ring of a C34 curve.

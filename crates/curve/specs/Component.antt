@@ -1,0 +1,183 @@
+-- The components of sums and products in A[y] modulo a monic cubic y³ + t2·y² + t1·y + t0.
+--   component-zero component-add component-neg component-one     of the ring's operations
+--   component-triple-j component-embed-j                         of elements given by components
+--   component-scale       of an element of A times g: component j (a·g) = a·(component j g)
+--   component-y-j         of y·g: −t0·g2, g0 − t1·g2, g1 − t2·g2
+--   embed-zero embed-one embed-add embed-neg embed-mul embed-inj embedding     A is a subring
+--   y-cubed               y³ = −(t2·y² + t1·y + t0)
+--   spread                g = g0 + g1·y + g2·y²
+use mathlib.Core.Path.{_≡_, refl, sym, _∙_, ap, ap₂}
+use Prim.Native.Nat.{ℕ, zero, suc}
+use Rattle.algebra.specs.Ring.{CommRing, ops}
+use Rattle.algebra.proofs.Norm.{E-ops, nil, unit}
+use Rattle.algebra.proofs.Solve.{solve, _⊞_, _⊠_, ⊟_}
+use Rattle.algebra.proofs.Laws as L
+use Rattle.polynomial.specs.RingMap.{RingMap}
+use Rattle.curve.specs.CubicLaws.{Normal, normal-form, product}
+use Rattle.curve.specs.Cubic.{Cubic, triple, component, embed, y, normal-path}
+
+scale-0 : (A : CommRing) (t0 t1 t2 a r0 r1 r2 : A .Car) → (product (ops A) (normal-form t0 t1 t2) (normal-form a (A .zero) (A .zero)) (normal-form r0 r1 r2)) .r0 ≡ A .mul a r0
+scale-0 A = solve A 7 (λ t0 t1 t2 a r0 r1 r2. (product E-ops (normal-form t0 t1 t2) (normal-form a nil nil) (normal-form r0 r1 r2)) .r0) (λ t0 t1 t2 a r0 r1 r2. a ⊠ r0) tt
+
+scale-1 : (A : CommRing) (t0 t1 t2 a r0 r1 r2 : A .Car) → (product (ops A) (normal-form t0 t1 t2) (normal-form a (A .zero) (A .zero)) (normal-form r0 r1 r2)) .r1 ≡ A .mul a r1
+scale-1 A = solve A 7 (λ t0 t1 t2 a r0 r1 r2. (product E-ops (normal-form t0 t1 t2) (normal-form a nil nil) (normal-form r0 r1 r2)) .r1) (λ t0 t1 t2 a r0 r1 r2. a ⊠ r1) tt
+
+scale-2 : (A : CommRing) (t0 t1 t2 a r0 r1 r2 : A .Car) → (product (ops A) (normal-form t0 t1 t2) (normal-form a (A .zero) (A .zero)) (normal-form r0 r1 r2)) .r2 ≡ A .mul a r2
+scale-2 A = solve A 7 (λ t0 t1 t2 a r0 r1 r2. (product E-ops (normal-form t0 t1 t2) (normal-form a nil nil) (normal-form r0 r1 r2)) .r2) (λ t0 t1 t2 a r0 r1 r2. a ⊠ r2) tt
+
+by-y-0 : (A : CommRing) (t0 t1 t2 r0 r1 r2 : A .Car) → (product (ops A) (normal-form t0 t1 t2) (normal-form (A .zero) (A .one) (A .zero)) (normal-form r0 r1 r2)) .r0 ≡ A .neg (A .mul t0 r2)
+by-y-0 A = solve A 6 (λ t0 t1 t2 r0 r1 r2. (product E-ops (normal-form t0 t1 t2) (normal-form nil unit nil) (normal-form r0 r1 r2)) .r0) (λ t0 t1 t2 r0 r1 r2. ⊟ (t0 ⊠ r2)) tt
+
+by-y-1 : (A : CommRing) (t0 t1 t2 r0 r1 r2 : A .Car) → (product (ops A) (normal-form t0 t1 t2) (normal-form (A .zero) (A .one) (A .zero)) (normal-form r0 r1 r2)) .r1 ≡ A .add r0 (A .neg (A .mul t1 r2))
+by-y-1 A = solve A 6 (λ t0 t1 t2 r0 r1 r2. (product E-ops (normal-form t0 t1 t2) (normal-form nil unit nil) (normal-form r0 r1 r2)) .r1) (λ t0 t1 t2 r0 r1 r2. r0 ⊞ ⊟ (t1 ⊠ r2)) tt
+
+by-y-2 : (A : CommRing) (t0 t1 t2 r0 r1 r2 : A .Car) → (product (ops A) (normal-form t0 t1 t2) (normal-form (A .zero) (A .one) (A .zero)) (normal-form r0 r1 r2)) .r2 ≡ A .add r1 (A .neg (A .mul t2 r2))
+by-y-2 A = solve A 6 (λ t0 t1 t2 r0 r1 r2. (product E-ops (normal-form t0 t1 t2) (normal-form nil unit nil) (normal-form r0 r1 r2)) .r2) (λ t0 t1 t2 r0 r1 r2. r1 ⊞ ⊟ (t2 ⊠ r2)) tt
+
+module _ (A : CommRing) (t0 t1 t2 : A .Car) where
+  open CommRing A using (Car, zero as 𝟘, one as 𝟙, add as _+ₐ_, mul as _·ₐ_, neg as -ₐ_)
+  open CommRing (Cubic A t0 t1 t2) using (Car as El, zero as 𝟎, one as 𝟏, add as _⊕_, mul as _⊗_, neg as ⊖_)
+
+  infixl 60 _⊕_ _+ₐ_
+  infixl 70 _⊗_ _·ₐ_
+  infix 80 ⊖_ -ₐ_
+  abbrev pub part : ℕ → El → Car
+  part = component A t0 t1 t2
+
+  abbrev pub emb : Car → El
+  emb = embed A t0 t1 t2
+
+  abbrev pub 𝕪 : El
+  𝕪 = y A t0 t1 t2
+
+  pub component-zero : (j : ℕ) → part j 𝟎 ≡ 𝟘
+  unfolding Cubic component
+  component-zero zero = refl
+  component-zero (suc zero) = refl
+  component-zero (suc (suc zero)) = refl
+  component-zero (suc (suc (suc j))) = refl
+
+  pub component-above : (j : ℕ) (g : El) → part (suc (suc (suc j))) g ≡ 𝟘
+  unfolding Cubic component
+  component-above j g = refl
+
+  pub component-add : (j : ℕ) (g h : El) → part j (g ⊕ h) ≡ part j g +ₐ part j h
+  unfolding Cubic component
+  component-add zero g h = refl
+  component-add (suc zero) g h = refl
+  component-add (suc (suc zero)) g h = refl
+  component-add (suc (suc (suc j))) g h = sym (A .add-zero 𝟘)
+
+  pub component-neg : (j : ℕ) (g : El) → part j (⊖ g) ≡ -ₐ part j g
+  unfolding Cubic component
+  component-neg zero g = refl
+  component-neg (suc zero) g = refl
+  component-neg (suc (suc zero)) g = refl
+  component-neg (suc (suc (suc j))) g = sym (L.neg-zero A)
+
+  pub component-triple-0 : (a b c : Car) → part 0 (triple A t0 t1 t2 a b c) ≡ a
+  unfolding Cubic component triple
+  component-triple-0 a b c = refl
+
+  pub component-triple-1 : (a b c : Car) → part 1 (triple A t0 t1 t2 a b c) ≡ b
+  unfolding Cubic component triple
+  component-triple-1 a b c = refl
+
+  pub component-triple-2 : (a b c : Car) → part 2 (triple A t0 t1 t2 a b c) ≡ c
+  unfolding Cubic component triple
+  component-triple-2 a b c = refl
+
+  pub embed-one : emb 𝟙 ≡ 𝟏
+  unfolding Cubic component triple embed
+  embed-one = refl
+
+  pub component-embed-0 : (a : Car) → part 0 (emb a) ≡ a
+  unfolding Cubic component triple embed
+  component-embed-0 a = refl
+
+  pub component-embed-next : (j : ℕ) (a : Car) → part (suc j) (emb a) ≡ 𝟘
+  unfolding Cubic component triple embed
+  component-embed-next zero a = refl
+  component-embed-next (suc zero) a = refl
+  component-embed-next (suc (suc j)) a = refl
+
+  pub component-embed-1 : (a : Car) → part 1 (emb a) ≡ 𝟘
+  component-embed-1 a = component-embed-next 0 a
+
+  pub component-embed-2 : (a : Car) → part 2 (emb a) ≡ 𝟘
+  component-embed-2 a = component-embed-next 1 a
+
+  pub component-scale : (j : ℕ) (a : Car) (g : El) → part j (emb a ⊗ g) ≡ a ·ₐ part j g
+  unfolding Cubic component triple embed
+  component-scale zero a g = scale-0 A t0 t1 t2 a (g .r0) (g .r1) (g .r2)
+  component-scale (suc zero) a g = scale-1 A t0 t1 t2 a (g .r0) (g .r1) (g .r2)
+  component-scale (suc (suc zero)) a g = scale-2 A t0 t1 t2 a (g .r0) (g .r1) (g .r2)
+  component-scale (suc (suc (suc j))) a g = sym (L.mul-zero A a)
+
+  pub component-y-0 : (g : El) → part 0 (𝕪 ⊗ g) ≡ -ₐ (t0 ·ₐ part 2 g)
+  unfolding Cubic component triple y
+  component-y-0 g = by-y-0 A t0 t1 t2 (g .r0) (g .r1) (g .r2)
+
+  pub component-y-1 : (g : El) → part 1 (𝕪 ⊗ g) ≡ part 0 g +ₐ -ₐ (t1 ·ₐ part 2 g)
+  unfolding Cubic component triple y
+  component-y-1 g = by-y-1 A t0 t1 t2 (g .r0) (g .r1) (g .r2)
+
+  pub component-y-2 : (g : El) → part 2 (𝕪 ⊗ g) ≡ part 1 g +ₐ -ₐ (t2 ·ₐ part 2 g)
+  unfolding Cubic component triple y
+  component-y-2 g = by-y-2 A t0 t1 t2 (g .r0) (g .r1) (g .r2)
+
+  pub embed-inj : (a b : Car) → emb a ≡ emb b → a ≡ b
+  embed-inj a b e = sym (component-embed-0 a) ∙ ap (part 0) e ∙ component-embed-0 b
+
+  pub embed-zero : emb 𝟘 ≡ 𝟎
+  unfolding Cubic triple embed
+  embed-zero = refl
+
+  pub embed-add : (a b : Car) → emb (a +ₐ b) ≡ emb a ⊕ emb b
+  embed-add a b =
+      normal-path A t0 t1 t2 (simp (component-add, component-embed-0)) (simp (component-add, component-embed-1, A .add-zero)) (simp (component-add, component-embed-2, A .add-zero))
+
+  pub embed-neg : (a : Car) → emb (-ₐ a) ≡ ⊖ emb a
+  embed-neg a =
+      normal-path A t0 t1 t2 (simp (component-neg, component-embed-0)) (simp (component-neg, component-embed-1, L.neg-zero)) (simp (component-neg, component-embed-2, L.neg-zero))
+
+  pub embed-mul : (a b : Car) → emb (a ·ₐ b) ≡ emb a ⊗ emb b
+  embed-mul a b =
+      normal-path A t0 t1 t2 (simp (component-scale, component-embed-0)) (simp (component-scale, component-embed-1, L.mul-zero)) (simp (component-scale, component-embed-2, L.mul-zero))
+
+  pub embedding : RingMap A (Cubic A t0 t1 t2)
+  embedding = record { map = emb; map-zero = embed-zero; map-one = embed-one; map-add = embed-add; map-mul = embed-mul }
+
+  triple-y : 𝕪 ≡ triple A t0 t1 t2 𝟘 𝟙 𝟘
+  unfolding y
+  triple-y = refl
+
+  pub y-0 : part 0 𝕪 ≡ 𝟘
+  y-0 = ap (part 0) triple-y ∙ component-triple-0 𝟘 𝟙 𝟘
+
+  pub y-1 : part 1 𝕪 ≡ 𝟙
+  y-1 = ap (part 1) triple-y ∙ component-triple-1 𝟘 𝟙 𝟘
+
+  pub y-2 : part 2 𝕪 ≡ 𝟘
+  y-2 = ap (part 2) triple-y ∙ component-triple-2 𝟘 𝟙 𝟘
+
+  pub y-squared : 𝕪 ⊗ 𝕪 ≡ triple A t0 t1 t2 𝟘 𝟘 𝟙
+  y-squared =
+      normal-path A t0 t1 t2 (simp (component-y-0, component-triple-0, y-2, L.mul-zero, L.neg-zero)) (simp (component-y-1, component-triple-1, y-0, y-2, L.mul-zero, L.neg-zero, A .add-zero))
+      (simp (component-y-2, component-triple-2, y-1, y-2, L.mul-zero, L.neg-zero, A .add-zero))
+
+  pub y-cubed : 𝕪 ⊗ (𝕪 ⊗ 𝕪) ≡ ⊖ (emb t2 ⊗ (𝕪 ⊗ 𝕪) ⊕ emb t1 ⊗ 𝕪 ⊕ emb t0)
+  y-cubed =
+      rw y-squared
+      (normal-path A t0 t1 t2
+      (simp (component-y-0, component-triple-0, component-triple-2, component-neg, component-add, component-scale, component-embed-0, y-0, L.mul-zero, L.zero-add, A .mul-one))
+      (simp (component-y-1, component-triple-0, component-triple-1, component-triple-2, component-neg, component-add, component-scale, component-embed-1, y-1, L.mul-zero, L.zero-add, A .add-zero, A .mul-one))
+      (simp (component-y-2, component-triple-1, component-triple-2, component-neg, component-add, component-scale, component-embed-2, y-2, L.mul-zero, L.zero-add, A .add-zero, A .mul-one)))
+
+  pub spread : (g : El) → g ≡ emb (part 0 g) ⊕ emb (part 1 g) ⊗ 𝕪 ⊕ emb (part 2 g) ⊗ (𝕪 ⊗ 𝕪)
+  spread g =
+      rw y-squared
+      (normal-path A t0 t1 t2
+      (simp (component-triple-0, component-add, component-scale, component-embed-0, y-0, L.mul-zero, A .add-zero))
+      (simp (component-triple-1, component-add, component-scale, component-embed-1, y-1, L.mul-zero, L.zero-add, A .add-zero, A .mul-one))
+      (simp (component-triple-2, component-add, component-scale, component-embed-2, y-2, L.mul-zero, L.zero-add, A .add-zero, A .mul-one)))

@@ -1,0 +1,104 @@
+-- Pole numbers of normal monomials. Among them no two agree, and they are all natural numbers but 1, 2 and 5.
+--   pole i j           the pole number 3i + 4j of x^i·y^j
+--   x-power n, y-power n           the exponents i and j ≤ 2 of the normal monomial of pole number n
+--   normal-monomials   the table of the normal monomials of pole number up to 25, with their pole numbers
+--   pole-x, pole-y     x-power and y-power are the exponents
+--   pole-distinct      normal monomials with the same pole number are the same
+--   Located n, locate  n is the pole number of a normal monomial or a gap
+--   gap-dec            it is decidable which
+--   pole-is-pole, is-pole-pole     the pole numbers of normal monomials are the numbers that are no gaps
+use mathlib.Core.Path.{_≡_, refl, sym, _∙_, ap, subst}
+use mathlib.Core.List.{List, [], _∷_}
+use mathlib.Core.Logic.{_⊎_, inl, inr, _↔_}
+use Prim.Native.Nat.{ℕ, zero, suc, _+_, _*_, _-_, _/_, _%_, _≤_, _<_}
+use native.Mathlib.Omega.{arith}
+use native.Mathlib.Decide.{decLe, ℕ-discrete}
+use Rattle.ideal.specs.Poles.{IsGap, IsPole}
+
+-- Document 01: "The pole number of x^i·y^j is 3i + 4j."
+abbrev pub pole : ℕ → ℕ → ℕ
+pole i j = 3 * i + 4 * j
+
+abbrev pub y-power : ℕ → ℕ
+y-power n = n % 3
+
+abbrev pub x-power : ℕ → ℕ
+x-power n = (n - 4 * (n % 3)) / 3
+
+-- a normal monomial x^i·y^j with its pole number
+pub record Entry : Type 0 where
+  pub i : ℕ
+  pub j : ℕ
+  pub number : ℕ
+
+abbrev pub entry : ℕ → ℕ → ℕ → Entry
+entry i j n = record { i = i; j = j; number = n }
+
+abbrev pub normal-monomials : List Entry
+normal-monomials =
+    entry 0 0 0 ∷ entry 1 0 3 ∷ entry 0 1 4 ∷ entry 2 0 6 ∷ entry 1 1 7 ∷ entry 0 2 8
+    ∷ entry 3 0 9 ∷ entry 2 1 10 ∷ entry 1 2 11 ∷ entry 4 0 12 ∷ entry 3 1 13 ∷ entry 2 2 14
+    ∷ entry 5 0 15 ∷ entry 4 1 16 ∷ entry 3 2 17 ∷ entry 6 0 18 ∷ entry 5 1 19 ∷ entry 4 2 20
+    ∷ entry 7 0 21 ∷ entry 6 1 22 ∷ entry 5 2 23 ∷ entry 8 0 24 ∷ entry 7 1 25 ∷ []
+
+pub pole-y : (i j : ℕ) → j ≤ 2 → y-power (pole i j) ≡ j
+pole-y i zero h = omega arith
+pole-y i (suc zero) h = omega arith
+pole-y i (suc (suc zero)) h = omega arith
+pole-y i (suc (suc (suc j))) h = absurd (omega arith)
+
+pub pole-x : (i j : ℕ) → j ≤ 2 → x-power (pole i j) ≡ i
+pole-x i j h = omega (arith, pole-y i j h)
+
+-- Document 01: "Among normal monomials no two pole numbers agree."
+pub pole-distinct : (i j i′ j′ : ℕ) → j ≤ 2 → j′ ≤ 2 → pole i j ≡ pole i′ j′ → (i ≡ i′) × (j ≡ j′)
+pole-distinct i j i′ j′ h h′ e =
+    (sym (pole-x i j h) ∙ ap x-power e ∙ pole-x i′ j′ h′, sym (pole-y i j h) ∙ ap y-power e ∙ pole-y i′ j′ h′)
+
+pub data Located (n : ℕ) : Type 0 where
+  place : (i j : ℕ) → j ≤ 2 → n ≡ pole i j → Located n
+  gap : IsGap n → Located n
+
+pub locate : (n : ℕ) → Located n
+locate n = go (n % 3) refl
+  where
+    go-1 : n % 3 ≡ 1 → Dec (4 ≤ n) → Located n
+    go-1 e (yes h) = place ((n - 4) / 3) 1 (omega arith) (omega arith)
+    go-1 e (no h) = gap (inl (omega arith))
+
+    go-2 : n % 3 ≡ 2 → Dec (8 ≤ n) → Dec (n ≡ 2) → Located n
+    go-2 e (yes h) d = place ((n - 8) / 3) 2 (omega arith) (omega arith)
+    go-2 e (no h) (yes d) = gap (inr (inl d))
+    go-2 e (no h) (no d) = gap (inr (inr (omega arith)))
+
+    go : (r : ℕ) → n % 3 ≡ r → Located n
+    go zero e = place (n / 3) 0 (omega arith) (omega arith)
+    go (suc zero) e = go-1 e (decLe 4 n)
+    go (suc (suc zero)) e = go-2 e (decLe 8 n) (ℕ-discrete n 2)
+    go (suc (suc (suc r))) e = absurd (omega arith)
+
+pub pole-is-pole : (i j : ℕ) → j ≤ 2 → IsPole (pole i j)
+pole-is-pole i zero h (inl e) = omega arith
+pole-is-pole i zero h (inr (inl e)) = omega arith
+pole-is-pole i zero h (inr (inr e)) = omega arith
+pole-is-pole i (suc zero) h (inl e) = omega arith
+pole-is-pole i (suc zero) h (inr (inl e)) = omega arith
+pole-is-pole i (suc zero) h (inr (inr e)) = omega arith
+pole-is-pole i (suc (suc zero)) h (inl e) = omega arith
+pole-is-pole i (suc (suc zero)) h (inr (inl e)) = omega arith
+pole-is-pole i (suc (suc zero)) h (inr (inr e)) = omega arith
+pole-is-pole i (suc (suc (suc j))) h g = absurd (omega arith)
+
+pub is-pole-pole : (n : ℕ) → IsPole n → (i j : ℕ) × (j ≤ 2) × (n ≡ pole i j)
+is-pole-pole n p = go (locate n)
+  where
+    go : Located n → (i j : ℕ) × (j ≤ 2) × (n ≡ pole i j)
+    go (place i j h e) = (i, j, h, e)
+    go (gap g) = absurd (p g)
+
+pub gap-dec : (n : ℕ) → Dec (IsGap n)
+gap-dec n = go (locate n)
+  where
+    go : Located n → Dec (IsGap n)
+    go (place i j h e) = no (λ d. pole-is-pole i j h (subst IsGap e d))
+    go (gap d) = yes d
