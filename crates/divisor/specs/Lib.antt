@@ -1,0 +1,2 @@
+-- The kinds of divisor records, their polynomials and ideals.
+pub mod Kind

@@ -1,0 +1,1 @@
+// Theory only: the kinds of divisor records and their ideals are in specs/ and proofs/.
