@@ -1,12 +1,12 @@
--- derivative-x and derivative-y are the normal forms of Fx and Fy; their coefficients by pole number.
+-- The elements derivative-x and derivative-y are the normal forms of Fx and Fy; their coefficients by pole number.
 --   coef-ascending     the coefficients of a polynomial whose coefficients are listed
 --   normal-Fx normal-Fy                      derivative-x and derivative-y are the normal forms of Fx and Fy
 --   coefficient-derivative-x                 the coefficient of derivative-x at n is the entry of vector-x at n, and 0 past its end
 --   coefficient-derivative-y                 the same for derivative-y and vector-y
-use mathlib.Core.Path.{_≡_, refl, sym, _∙_, ap, ap₂}
+use mathlib.Core.Path.{_≡_, refl, sym, _∙_, ap}
 use mathlib.Core.List.{List, [], _∷_}
 use mathlib.Core.Logic.{inl, inr}
-use Prim.Native.Nat.{ℕ, zero, suc, _+_, _*_, _≤_, _<_}
+use Prim.Native.Nat.{ℕ, zero, suc, _+_, _*_, _≤_}
 use native.Mathlib.Omega.{arith}
 use lib.Dec.{lit≤}
 use lib.ListN.{getD, length, List·getD-eq-default}
@@ -14,18 +14,18 @@ use Rattle.algebra.specs.Ring.{CommRing}
 use Rattle.algebra.proofs.Laws.{mul-zero}
 use Rattle.algebra.proofs.Norm.{num}
 use Rattle.algebra.proofs.Solve.{_⊞_, _⊠_, solve}
-use Rattle.polynomial.specs.Poly.{Poly, coef, poly-path, const}
+use Rattle.polynomial.specs.Poly.{Poly, coef, poly-path}
 use Rattle.polynomial.specs.Deriv.{numeral, deriv}
 use Rattle.polynomial.specs.Plane.{by-x, by-y}
 use Rattle.polynomial.proofs.Coef.{coef-zero, coef-add, coef-one-head, coef-one-next, coef-split-head, coef-split-next}
 use Rattle.polynomial.proofs.Deriv.{coef-deriv, numeral-number}
 use Rattle.polynomial.proofs.Cubic.{deriv-cubic, by-x-cubic}
 use Rattle.ideal.specs.Poles.{IsGap}
-use Rattle.curve.specs.Curve.{Curve, ascending, t0, t1, t2, Coordinate, part, at}
+use Rattle.curve.specs.Curve.{Curve, ascending, t0, t1, t2, Coordinate, at}
 use Rattle.curve.specs.Pole.{pole, Located, place, gap, locate}
 use Rattle.curve.specs.Monomial.{coefficient}
 use Rattle.curve.specs.Term.{coefficient-pole, coefficient-gap}
-use Rattle.nonsingular.specs.Equation.{F, Fx, Fy}
+use Rattle.nonsingular.specs.Equation.{Fx, Fy}
 use Rattle.nonsingular.specs.Normal.{of-parts, normal}
 use Rattle.nonsingular.specs.Derivative.{twice, thrice, four-times, derivative-x, derivative-y, vector-x, vector-y}
 use Rattle.nonsingular.proofs.Quotient.{F-cubic, part-0, part-1, part-2, normal-quadratic}

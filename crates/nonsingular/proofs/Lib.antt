@@ -2,3 +2,4 @@
 pub mod Quotient
 pub mod Derivative
 pub mod Nonsingular
+pub mod Examples
