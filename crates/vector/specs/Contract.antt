@@ -7,6 +7,8 @@
 --   TimesAsked, Times         times: b·v from the y-multiples of v
 --   DotAsked, pairing         dot: the sum of a[n]·b[n − s]
 --   ZeroTest                  is_zero: is v zero
+--   ScaleAsked, Scaled        scale: c·v[i] at the place i, for each i below e
+--   ShiftAsked, Shifted       shift_y: v[n] at the place n + 4, for each n of the classes 0 and 1 modulo 3
 use mathlib.Core.Path.{_≡_}
 use mathlib.Core.Bool.{Bool, true, false}
 use mathlib.Core.List.{List}
@@ -125,3 +127,23 @@ pairing p a b s from to = total (Z p) (λ i. Z p .mul (res p a (from + i)) (res 
 pub record ZeroTest (v : List ℕ) (r : Bool) : Type 0 where
   pub zero-vector : r ≡ true → Top v 0
   pub nonzero : r ≡ false → (n : ℕ) × (n < width) × (0 < at v n)
+
+pub record ScaleAsked (p : ℕ) (v : List ℕ) (c e : ℕ) : Type 0 where
+  pub v-vec : Vec p v
+  pub c-below : c < p
+  pub room : e ≤ width
+
+pub record Scaled (p : ℕ) (v : List ℕ) (c e : ℕ) (v′ : List ℕ) : Type 0 where
+  pub vec : Vec p v′
+  pub new : (i : ℕ) → i < e → res p v′ i ≡ Z p .mul (el p c) (res p v i)
+  pub high : (n : ℕ) → e ≤ n → at v′ n ≡ at v n
+
+pub record ShiftAsked (v : List ℕ) (top : ℕ) : Type 0 where
+  pub room : top + 4 ≤ width
+
+pub record Shifted (v : List ℕ) (top : ℕ) (r : List ℕ) : Type 0 where
+  pub len : length r ≡ width
+  pub low : (n : ℕ) → n < 4 → at r n ≡ 0
+  pub moved : (n : ℕ) → n < top → n % 3 < 2 → at r (n + 4) ≡ at v n
+  pub dropped : (n : ℕ) → n % 3 ≡ 2 → at r (n + 4) ≡ 0
+  pub high : (n : ℕ) → top ≤ n → at r (n + 4) ≡ 0

@@ -1,8 +1,10 @@
 // Vectors of residues modulo p, indexed by pole number. A vector is 26 numbers below p, 0 at the places 1, 2 and 5.
 // The vector that a loop works on is lent, and loops end at the degree.
 ghost use mathlib.Core.Path.{_≡_};
+ghost use lib.ListN.{length};
 ghost use Rattle.field.specs.Contract.{Is};
-ghost use Rattle.vector.specs.Contract.{AxpyAsked, Added, ClearAsked, Cleared, MonicAsked, MadeMonic, TimesYAsked, TimesY, YMultiplesAsked, YMultiples, TimesAsked, Times, DotAsked, pairing, ZeroTest};
+ghost use Rattle.vector.specs.Vector.{width};
+ghost use Rattle.vector.specs.Contract.{AxpyAsked, Added, ClearAsked, Cleared, MonicAsked, MadeMonic, TimesYAsked, TimesY, YMultiplesAsked, YMultiples, TimesAsked, Times, DotAsked, pairing, ZeroTest, ScaleAsked, Scaled, ShiftAsked, Shifted};
 
 // c·x^(s/3)·b added to r, for b below e.
 pub fn axpy(p: u32, r: &mut [u32; 26], c: u32, b: &[u32; 26], s: usize, e: usize)
@@ -101,6 +103,7 @@ pub fn dot(p: u32, a: &[u32; 26], b: &[u32; 26], s: usize, from: usize, to: usiz
 
 // Is v zero?
 pub fn is_zero(v: &[u32; 26]) -> bool
+    requires { ⌜ length (now v) ≡ width ⌝ }
     ensures { λ r. ⌜ ZeroTest (now (v .entry)) r ⌝ }
 {
     let mut i = 0;
@@ -114,7 +117,10 @@ pub fn is_zero(v: &[u32; 26]) -> bool
 }
 
 // c·v, for v below e: the numbers from e on stay.
-fn scale(p: u32, v: &mut [u32; 26], c: u32, e: usize) {
+fn scale(p: u32, v: &mut [u32; 26], c: u32, e: usize)
+    requires { ⌜ ScaleAsked p (now v) c e ⌝ }
+    ensures { λ _. ⌜ Scaled p (now (v .entry)) c e (now (v .exit)) ⌝ }
+{
     let mut i = 0;
     while i < e {
         v[i] = field::mul(p, c, v[i]);
@@ -123,7 +129,10 @@ fn scale(p: u32, v: &mut [u32; 26], c: u32, e: usize) {
 }
 
 // The part of y·v that comes from the classes 0 and 1 modulo 3: v[n] at n + 4.
-fn shift_y(v: &[u32; 26], top: usize) -> [u32; 26] {
+fn shift_y(v: &[u32; 26], top: usize) -> [u32; 26]
+    requires { ⌜ ShiftAsked (now v) top ⌝ }
+    ensures { λ r. ⌜ Shifted (now (v .entry)) top r ⌝ }
+{
     let mut out = [0u32; 26];
     let mut n = 0;
     while n < top {

@@ -1,0 +1,2 @@
+-- Laws of the loops on vectors.
+pub mod Loop

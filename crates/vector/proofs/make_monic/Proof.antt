@@ -1,0 +1,52 @@
+use borrow.Author.Needs.{needs}
+use Rattle.vector.proofs.make_monic.Statement.{statement}
+use Rattle.vector.proofs.make_monic.Tie as tie
+use Rattle.vector.proofs.make_monic.Reads as reads
+use Rattle.vector.proofs.make_monic.Lts as lts
+use Rattle.field.proofs.inverse.Reads as inverse-reads
+use Rattle.vector.proofs.scale.Reads as scale-reads
+
+-- src/lib.rt:38:16
+mul-lead : tie.Need-mul-lead
+mul-lead c = search needs
+
+-- src/lib.rt:38:16
+element-copy-out-lead : tie.Need-element-copy-out-lead
+element-copy-out-lead c = search needs
+
+-- src/lib.rt:40:13
+inverse-requires : tie.Need-inverse-requires
+inverse-requires c κs = ?
+
+-- src/lib.rt:41:9
+scale-requires : tie.Need-scale-requires
+scale-requires c κs = search needs
+
+-- src/lib.rt:42:9
+mul-v : tie.Need-mul-v
+mul-v c = search needs
+
+-- src/lib.rt:42:9
+element-write-v : tie.Need-element-write-v
+element-write-v c = search needs
+
+-- src/lib.rt:34:1
+returns : tie.Need-returns
+returns c = ?
+
+-- src/lib.rt:34:1
+returns-2 : tie.Need-returns-2
+returns-2 c = ?
+
+pub make-monic-spec : {M : Type 1} → statement M
+make-monic-spec =
+    tie.close
+    (tie.spec
+    mul-lead
+    element-copy-out-lead
+    inverse-requires
+    scale-requires
+    mul-v
+    element-write-v
+    returns
+    returns-2)
