@@ -1,0 +1,4 @@
+-- Laws of triples of vectors over k[x].
+pub mod Element
+pub mod Members
+pub mod Leads
