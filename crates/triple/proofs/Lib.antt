@@ -2,3 +2,5 @@
 pub mod Element
 pub mod Members
 pub mod Leads
+pub mod Turn
+pub mod Insert

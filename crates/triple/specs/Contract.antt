@@ -54,8 +54,6 @@ pub record Turned (p : ℕ) (t : List (List ℕ)) (d v : List ℕ) (m : ℕ) (t�
   pub v-top : Top v′ n
   pub room : n ≤ width
   pub falls : degrees d′ + n ≤ degrees d + m
-  pub lower : (j : ℕ) → j < 3 → at d′ j ≤ at d j
-  pub fills : 0 < at v m → at d′ (m % 3) ≤ m
   pub same : (S : Setting p) → SameIdeal (ring S) (Span (poles-of S) (element p (S .curve) v′ ∷ elements S t′)) (Span (poles-of S) (element p (S .curve) v ∷ elements S t))
 
 pub record ReduceAsked (p : ℕ) (t : List (List ℕ)) (d v : List ℕ) (top : ℕ) : Type 0 where
