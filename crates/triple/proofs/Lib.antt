@@ -4,3 +4,5 @@ pub mod Members
 pub mod Leads
 pub mod Turn
 pub mod Insert
+pub mod Reduce
+pub mod Product
