@@ -5,3 +5,5 @@ pub mod Element
 pub mod Lead
 pub mod Portion
 pub mod Product
+pub mod ByY
+pub mod Powers
