@@ -6,3 +6,4 @@ pub mod Turns
 pub mod Insertion
 pub mod Reduction
 pub mod Products
+pub mod Filling

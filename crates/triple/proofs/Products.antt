@@ -96,12 +96,13 @@ empty-same {p} h S = span-same (poles-of S) (elements S no-rows) [] (each-row S 
 
 -- the products of i members of the first triple have been put in
 pub record Putting (p : ℕ) (t₁ ys t t′ : List (List ℕ)) (d′ : List ℕ) (i : ℕ) : Type 0 where
+  pub bound : i ≤ 3
   pub triple : Triple p t′ d′
   pub same : (S : Setting p) (g : ring S .Car) → RowsOf p (S .curve) ys g → SameIdeal (ring S) (Spanned S t′) (Span (poles-of S) (listed (λ i. ring S .mul (element p (S .curve) (row t₁ i)) g) i (elements S t)))
 
 module _ {p top : ℕ} {t₁ : List (List ℕ)} {d₁ : List ℕ} {ys t : List (List ℕ)} {d : List ℕ} (h : PutAsked p t₁ d₁ ys top t d) where
   pub put-start : Putting p t₁ ys t t d 0
-  put-start = record { triple = h .triple; same = λ S g r u. (λ q. q, λ q. q) }
+  put-start = record { bound = omega arith; triple = h .triple; same = λ S g r u. (λ q. q, λ q. q) }
 
   module _ {i : ℕ} (l : i < 3) where
     pub put-degree : at d₁ i ≤ 8
@@ -118,19 +119,19 @@ module _ {p top : ℕ} {t₁ : List (List ℕ)} {d₁ : List ℕ} {ys t : List (
         }
 
     module _ {t′ : List (List ℕ)} {d′ v : List ℕ} (q : Putting p t₁ ys t t′ d′ i) (m : Times p (row t₁ i) (at d₁ i + 1) ys top v) where
-      pub put-asked : InsertAsked p t′ d′ v (at d₁ i + 1 + top)
+      pub put-asked : InsertAsked p t′ d′ v (at d₁ i + top)
       put-asked = record { prime = h .prime; triple = q .triple; vec = m .vec; v-top = λ n k. m .top-out n (omega arith); room = omega (arith, put-degree, h .low) }
 
       pub put-more : {t″ : List (List ℕ)} {d″ : List ℕ} → Inserted p t′ d′ v t″ d″ → Putting p t₁ ys t t″ d″ (i + 1)
-      put-more {t″} {d″} r = subst (Putting p t₁ ys t t″ d″) (sym (add-one i)) (record { triple = r .triple; same = same })
+      put-more {t″} {d″} r = subst (Putting p t₁ ys t t″ d″) (sym (add-one i)) (record { bound = l; triple = r .triple; same = same })
         where
           same : (S : Setting p) (g : ring S .Car) → RowsOf p (S .curve) ys g → SameIdeal (ring S) (Spanned S t″) (Span (poles-of S) (listed (λ i. ring S .mul (element p (S .curve) (row t₁ i)) g) (suc i) (elements S t)))
           same S g o =
               subst (λ u. SameIdeal (ring S) (Spanned S t″) (Span (poles-of S) (u ∷ listed (λ i. ring S .mul (element p (S .curve) (row t₁ i)) g) i (elements S t)))) (m .value (S .curve) g o)
               (same-trans (poles-of S) (r .same S) (span-cons (poles-of S) (elements S t′) (listed (λ i. ring S .mul (element p (S .curve) (row t₁ i)) g) i (elements S t)) (element p (S .curve) v) (q .same S g o)))
 
-pub put-end : {p i : ℕ} {t₁ ys t t′ : List (List ℕ)} {d′ : List ℕ} → Putting p t₁ ys t t′ d′ i → i ≡ 3 → Put p t₁ ys t t′ d′
-put-end {p} {i} {t₁} {ys} {t} {t′} {d′} q e = record { triple = q .triple; same = (subst (Putting p t₁ ys t t′ d′) e q) .same }
+pub put-end : {p i : ℕ} {t₁ ys t t′ : List (List ℕ)} {d′ : List ℕ} → Putting p t₁ ys t t′ d′ i → 3 ≤ i → Put p t₁ ys t t′ d′
+put-end {p} {i} {t₁} {ys} {t} {t′} {d′} q l = record { triple = q .triple; same = subst (Putting p t₁ ys t t′ d′) {x = i} {y = 3} (omega (arith, q .bound)) q .same }
 
 -- the products of all members of the first triple with the first j of the second, the last one first
 abbrev pub outer : {p : ℕ} (S : Setting p) (t₁ t₂ : List (List ℕ)) → ℕ → List (ring S .Car)
@@ -138,6 +139,7 @@ outer {p} S t₁ t₂ zero = []
 outer {p} S t₁ t₂ (suc j) = listed (λ i. ring S .mul (element p (S .curve) (row t₁ i)) (element p (S .curve) (row t₂ j))) 3 (outer S t₁ t₂ j)
 
 pub record Multiplying (p : ℕ) (f : List ℕ) (t₁ t₂ t : List (List ℕ)) (d : List ℕ) (j : ℕ) : Type 0 where
+  pub bound : j ≤ 3
   pub triple : Triple p t d
   pub same : (R : Ready p f) → SameIdeal (ring (R .setting)) (Spanned (R .setting) t) (Span (poles-of (R .setting)) (outer (R .setting) t₁ t₂ j))
 
@@ -149,7 +151,7 @@ module _ {p : ℕ} {f : List ℕ} {t₁ : List (List ℕ)} {d₁ : List ℕ} {t�
   positive = omega (arith, prime .two-le)
 
   pub multiply-start : Multiplying p f t₁ t₂ no-rows no-degrees 0
-  multiply-start = record { triple = empty-triple positive; same = λ R. empty-same positive (R .setting) }
+  multiply-start = record { bound = omega arith; triple = empty-triple positive; same = λ R. empty-same positive (R .setting) }
 
   module _ {j : ℕ} (l : j < 3) where
     pub multiples-asked : YMultiplesAsked p f (row t₂ j) (at d₂ j + 1)
@@ -167,7 +169,7 @@ module _ {p : ℕ} {f : List ℕ} {t₁ : List (List ℕ)} {d₁ : List ℕ} {t�
       products-asked = record { prime = prime; full = h .full₁; small = h .small₁; rows = m .rows; low = omega (arith, h .small₂ j l); triple = q .triple }
 
       pub multiply-more : {t′ : List (List ℕ)} {d′ : List ℕ} → Put p t₁ ys t t′ d′ → Multiplying p f t₁ t₂ t′ d′ (j + 1)
-      multiply-more {t′} {d′} r = subst (Multiplying p f t₁ t₂ t′ d′) (sym (add-one j)) (record { triple = r .triple; same = same })
+      multiply-more {t′} {d′} r = subst (Multiplying p f t₁ t₂ t′ d′) (sym (add-one j)) (record { bound = l; triple = r .triple; same = same })
         where
           same : (R : Ready p f) → SameIdeal (ring (R .setting)) (Spanned (R .setting) t′) (Span (poles-of (R .setting)) (outer (R .setting) t₁ t₂ (suc j)))
           same R = same-trans (poles-of S) (r .same S (element p (S .curve) (row t₂ j)) (m .value (S .curve) (R .cube))) (listed-same (poles-of S) (λ i. ring S .mul (element p (S .curve) (row t₁ i)) (element p (S .curve) (row t₂ j))) 3 (elements S t) (outer S t₁ t₂ j) (q .same R))
@@ -207,9 +209,9 @@ module _ {p : ℕ} (S : Setting p) (t₁ t₂ : List (List ℕ)) (len₁ : lengt
       back : Every (Span (poles-of S) (outer S t₁ t₂ 3)) all
       back = every-products (poles-of S) (Span (poles-of S) (outer S t₁ t₂ 3)) (elements S t₁) (elements S t₂) (each-row S (λ a. Every (λ b. Span (poles-of S) (outer S t₁ t₂ 3) (ring S .mul a b)) (elements S t₂)) t₁ (λ i l. each-row S (λ b. Span (poles-of S) (outer S t₁ t₂ 3) (ring S .mul (element p (S .curve) (row t₁ i)) b)) t₂ (λ j k. outer-at S t₁ t₂ (Span (poles-of S) (outer S t₁ t₂ 3)) 3 (span-each (poles-of S) (outer S t₁ t₂ 3)) j i (omega arith) (omega arith))))
 
-module _ {p j : ℕ} {f : List ℕ} {t₁ : List (List ℕ)} {d₁ : List ℕ} {t₂ : List (List ℕ)} {d₂ : List ℕ} {t : List (List ℕ)} {d : List ℕ} (h : ProductAsked p f t₁ d₁ t₂ d₂) (q : Multiplying p f t₁ t₂ t d j) (e : j ≡ 3) where
+module _ {p j : ℕ} {f : List ℕ} {t₁ : List (List ℕ)} {d₁ : List ℕ} {t₂ : List (List ℕ)} {d₂ : List ℕ} {t : List (List ℕ)} {d : List ℕ} (h : ProductAsked p f t₁ d₁ t₂ d₂) (q : Multiplying p f t₁ t₂ t d j) (end : 3 ≤ j) where
   done : Multiplying p f t₁ t₂ t d 3
-  done = subst (Multiplying p f t₁ t₂ t d) e q
+  done = subst (Multiplying p f t₁ t₂ t d) {x = j} {y = 3} (omega (arith, q .bound)) q
 
   -- the product of the i-th member and the second triple's member of class 0 fills the class i
   filled : (i : ℕ) → i < 3 → at d i < width

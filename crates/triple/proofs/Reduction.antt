@@ -12,6 +12,7 @@ use Prim.Native.Nat.{ℕ, zero, suc, _+_, _*_, _-_, _/_, _%_, _<_, _≤_}
 use native.Mathlib.Omega.{arith}
 use native.Mathlib.Decide.{ℕ-discrete, decLt}
 use lib.ListN.{length, List·getD-eq-default}
+use borrow.Author.Tests.{not-true, not-false}
 use Rattle.algebra.specs.Ring.{CommRing}
 use Rattle.algebra.proofs.Laws as L
 use Rattle.field.specs.Residue.{Z, el}
@@ -192,14 +193,6 @@ module _ {p top : ℕ} {f : List ℕ} (t : List (List ℕ)) (j : ℕ) {d w v : L
 
   pub at-test : {q : Bool} → j < 3 → ZeroTest v q → AtTest p f t d j q
   at-test l z = record { yes-at = λ e. at-yes (z .zero-vector e); no-at = λ e. let (n, b, k) = z .nonzero e in at-no l n k }
-
-not-true : (r : Bool) → not r ≡ true → r ≡ false
-not-true true e = sym e
-not-true false e = refl
-
-not-false : (r : Bool) → not r ≡ false → r ≡ true
-not-false true e = refl
-not-false false e = sym e
 
 -- y times each of the first j members is in the span
 pub record Closing (p : ℕ) (f : List ℕ) (t : List (List ℕ)) (d : List ℕ) (j : ℕ) : Type 0 where

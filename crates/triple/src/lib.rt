@@ -85,7 +85,16 @@ fn closed_at(p: u32, f: &[u32; 26], t: &[[u32; 26]; 3], d: &[usize; 3], j: usize
 
 // The triple (t, d) becomes that of the product of two triples' spans. The products with the second triple's member of
 // class 0 come first: they are monic and fill the three classes.
-pub fn product(p: u32, f: &[u32; 26], t1: &[[u32; 26]; 3], d1: &[usize; 3], t2: &[[u32; 26]; 3], d2: &[usize; 3], t: &mut [[u32; 26]; 3], d: &mut [usize; 3])
+pub fn product(
+    p: u32,
+    f: &[u32; 26],
+    t1: &[[u32; 26]; 3],
+    d1: &[usize; 3],
+    t2: &[[u32; 26]; 3],
+    d2: &[usize; 3],
+    t: &mut [[u32; 26]; 3],
+    d: &mut [usize; 3],
+)
     requires { ⌜ ProductAsked p (now f) (now t1) (now d1) (now t2) (now d2) ⌝ }
     ensures { λ _. ⌜ Multiplied p (now (f .entry)) (now (t1 .entry)) (now (t2 .entry)) (now (t .exit)) (now (d .exit)) ⌝ }
 {
@@ -101,7 +110,15 @@ pub fn product(p: u32, f: &[u32; 26], t1: &[[u32; 26]; 3], d1: &[usize; 3], t2: 
 }
 
 // The products of the members of t1 with one element, of which ys are the y-multiples, are put into the triple (t, d).
-fn insert_products(p: u32, t1: &[[u32; 26]; 3], d1: &[usize; 3], ys: &[[u32; 26]; 3], top: usize, t: &mut [[u32; 26]; 3], d: &mut [usize; 3])
+fn insert_products(
+    p: u32,
+    t1: &[[u32; 26]; 3],
+    d1: &[usize; 3],
+    ys: &[[u32; 26]; 3],
+    top: usize,
+    t: &mut [[u32; 26]; 3],
+    d: &mut [usize; 3],
+)
     requires { ⌜ PutAsked p (now t1) (now d1) (now ys) top (now t) (now d) ⌝ }
     ensures { λ _. ⌜ Put p (now (t1 .entry)) (now (ys .entry)) (now (t .entry)) (now (t .exit)) (now (d .exit)) ⌝ }
 {
@@ -115,7 +132,13 @@ fn insert_products(p: u32, t1: &[[u32; 26]; 3], d1: &[usize; 3], ys: &[[u32; 26]
 }
 
 // The three vectors ys, the j-th below top + 4·j, are put into the triple, until it is that of the whole ring.
-pub fn insert_all(p: u32, t: &mut [[u32; 26]; 3], d: &mut [usize; 3], ys: &[[u32; 26]; 3], top: usize)
+pub fn insert_all(
+    p: u32,
+    t: &mut [[u32; 26]; 3],
+    d: &mut [usize; 3],
+    ys: &[[u32; 26]; 3],
+    top: usize,
+)
     requires { ⌜ AllAsked p (now t) (now d) (now ys) top ⌝ }
     ensures { λ _. ⌜ AllInserted p (now (t .entry)) (now (d .entry)) (now (ys .entry)) (now (t .exit)) (now (d .exit)) ⌝ }
 {

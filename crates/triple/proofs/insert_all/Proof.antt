@@ -1,63 +1,51 @@
+-- `triple::insert_all` meets its contract. The loop's invariant is Filling of proofs/Filling, its measure 3 − j.
+use Prim.Native.Nat.{_-_}
+use native.Mathlib.Omega.{arith}
+use Rattle.triple.proofs.Filling.{Filling, fill-start, fill-asked, fill-more, fill-end, fill-stop}
 use Rattle.triple.proofs.insert_all.Statement.{statement}
 use Rattle.triple.proofs.insert_all.Tie as tie
-use Rattle.triple.proofs.insert_all.Reads as reads
-use Rattle.triple.proofs.insert_all.Lts as lts
-use Rattle.triple.proofs.insert.Reads as insert-reads
-use Rattle.triple.proofs.whole.Reads as whole-reads
 
 abbrev Inv-loop : tie.InvT-loop
-Inv-loop p t₀ d₀ ys top j₀ t d j = ?
+Inv-loop p t₀ d₀ ys top j₀ t d j = Filling p t₀ ys t d j
 
 abbrev μ-loop : tie.MeasureT-loop
-μ-loop p t₀ d₀ ys top j₀ t d j = ?
+μ-loop p t₀ d₀ ys top j₀ t d j = 3 - j
 
--- src/lib.rt:123:5
 loop-holds : tie.Need-loop-holds Inv-loop μ-loop
-loop-holds c = ?
+loop-holds c = fill-start (c .pre)
 
--- src/lib.rt:124:12
 whole-requires : tie.Need-whole-requires Inv-loop μ-loop
-whole-requires c κs = ?
+whole-requires c κs = tt
 
--- src/lib.rt:125:13
 returns : tie.Need-returns Inv-loop μ-loop
-returns c = ?
+returns c = fill-stop (c .before .before .before .before .before .pre) (c .before .before .before .before .loop .inv) (c .before .whole .ensures .yes-whole (c .if1 .taken))
 
--- src/lib.rt:127:21
 mul-v : tie.Need-mul-v Inv-loop μ-loop
-mul-v c = ?
+mul-v c = omega arith
 
--- src/lib.rt:127:21
 element-copy-out-v : tie.Need-element-copy-out-v Inv-loop μ-loop
-element-copy-out-v c = ?
+element-copy-out-v c = omega arith
 
--- src/lib.rt:128:39
 mul-insert : tie.Need-mul-insert Inv-loop μ-loop
-mul-insert c = ?
+mul-insert c = omega arith
 
--- src/lib.rt:128:33
 add-insert : tie.Need-add-insert Inv-loop μ-loop
-add-insert c = ?
+add-insert c = omega arith
 
--- src/lib.rt:128:9
 insert-requires : tie.Need-insert-requires Inv-loop μ-loop
-insert-requires c κs = ?
+insert-requires c κs = fill-asked (c .before .before .before .before .before .before .before .before .before .pre) (c .before .before .before .before .before .before .before .before .loop .inv) (c .before .before .before .before .before .before .before .loop-test .taken)
 
--- src/lib.rt:129:9
 add-j : tie.Need-add-j Inv-loop μ-loop
-add-j c = ?
+add-j c = omega arith
 
--- src/lib.rt:123:5
 loop-less : tie.Need-loop-less Inv-loop μ-loop
-loop-less c = ?
+loop-less c = omega arith
 
--- src/lib.rt:123:5
 loop-again : tie.Need-loop-again Inv-loop μ-loop
-loop-again c = ?
+loop-again c = fill-more (c .before .before .before .before .before .before .before .before .before .before .pre) (c .before .before .before .before .before .before .before .before .before .loop .inv) (c .before .before .before .before .before .before .before .before .loop-test .taken) (c .insert .ensures)
 
--- src/lib.rt:118:1
 returns-2 : tie.Need-returns-2 Inv-loop μ-loop
-returns-2 c = ?
+returns-2 c = fill-end (c .before .before .pre) (c .before .loop .inv) (omega arith)
 
 pub insert-all-spec : {M : Type 1} → statement M
 insert-all-spec =

@@ -1,67 +1,54 @@
+-- `triple::insert_products` meets its contract. The loop's invariant is Putting of proofs/Products, its measure 3 − i.
+use Prim.Native.Nat.{_-_}
+use native.Mathlib.Omega.{arith}
+use Rattle.triple.proofs.Products.{Putting, put-start, put-degree, times-asked, put-asked, put-more, put-end}
 use Rattle.triple.proofs.insert_products.Statement.{statement}
 use Rattle.triple.proofs.insert_products.Tie as tie
-use Rattle.triple.proofs.insert_products.Reads as reads
-use Rattle.triple.proofs.insert_products.Lts as lts
-use Rattle.triple.proofs.insert.Reads as insert-reads
-use Rattle.vector.proofs.times.Reads as times-reads
 
 abbrev Inv-loop : tie.InvT-loop
-Inv-loop p t1 d1 ys top t₀ d₀ i₀ t d i = ?
+Inv-loop p t1 d1 ys top t₀ d₀ i₀ t d i = Putting p t1 ys t₀ t d i
 
 abbrev μ-loop : tie.MeasureT-loop
-μ-loop p t1 d1 ys top t₀ d₀ i₀ t d i = ?
+μ-loop p t1 d1 ys top t₀ d₀ i₀ t d i = 3 - i
 
--- src/lib.rt:109:5
 loop-holds : tie.Need-loop-holds Inv-loop μ-loop
-loop-holds c = ?
+loop-holds c = put-start (c .pre)
 
--- src/lib.rt:110:17
 mul-e : tie.Need-mul-e Inv-loop μ-loop
-mul-e c = ?
+mul-e c = omega arith
 
--- src/lib.rt:110:17
 element-copy-out-e : tie.Need-element-copy-out-e Inv-loop μ-loop
-element-copy-out-e c = ?
+element-copy-out-e c = omega arith
 
--- src/lib.rt:111:38
 mul-times : tie.Need-mul-times Inv-loop μ-loop
-mul-times c = ?
+mul-times c = omega arith
 
--- src/lib.rt:111:38
 index-1-times : tie.Need-index-1-times Inv-loop μ-loop
-index-1-times c = ?
+index-1-times c = omega arith
 
--- src/lib.rt:111:46
 add-times : tie.Need-add-times Inv-loop μ-loop
-add-times c = ?
+add-times c = omega (arith, put-degree (c .before .before .before .before .pre) (c .before .before .loop-test .taken))
 
--- src/lib.rt:111:21
 times-requires : tie.Need-times-requires Inv-loop μ-loop
-times-requires c κs = ?
+times-requires c κs = times-asked (c .before .before .before .before .pre) (c .before .before .loop-test .taken)
 
--- src/lib.rt:112:33
 add-insert : tie.Need-add-insert Inv-loop μ-loop
-add-insert c = ?
+add-insert c = omega (arith, put-degree (c .before .before .before .before .before .before .before .before .pre) (c .before .before .before .before .before .before .loop-test .taken), c .before .before .before .before .before .before .before .before .pre .low)
 
--- src/lib.rt:112:9
 insert-requires : tie.Need-insert-requires Inv-loop μ-loop
-insert-requires c κs = ?
+insert-requires c κs = put-asked (c .before .before .before .before .before .before .before .before .pre) (c .before .before .before .before .before .before .loop-test .taken) (c .before .before .before .before .before .before .before .loop .inv) (c .before .before .before .times .ensures)
 
--- src/lib.rt:113:9
 add-i : tie.Need-add-i Inv-loop μ-loop
-add-i c = ?
+add-i c = omega arith
 
--- src/lib.rt:109:5
 loop-less : tie.Need-loop-less Inv-loop μ-loop
-loop-less c = ?
+loop-less c = omega arith
 
--- src/lib.rt:109:5
 loop-again : tie.Need-loop-again Inv-loop μ-loop
-loop-again c = ?
+loop-again c = put-more (c .before .before .before .before .before .before .before .before .before .pre) (c .before .before .before .before .before .before .before .loop-test .taken) (c .before .before .before .before .before .before .before .before .loop .inv) (c .before .before .before .before .times .ensures) (c .insert .ensures)
 
--- src/lib.rt:104:1
 returns : tie.Need-returns Inv-loop μ-loop
-returns c = ?
+returns c = put-end (c .before .loop .inv) (omega arith)
 
 pub insert-products-spec : {M : Type 1} → statement M
 insert-products-spec =

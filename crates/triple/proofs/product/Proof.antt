@@ -1,67 +1,54 @@
+-- `triple::product` meets its contract. The loop's invariant is Multiplying of proofs/Products, its measure 3 − j.
+use Prim.Native.Nat.{_-_}
+use native.Mathlib.Omega.{arith}
+use Rattle.triple.proofs.Products.{Multiplying, multiply-start, multiples-asked, products-asked, multiply-more, multiply-end}
 use Rattle.triple.proofs.product.Statement.{statement}
 use Rattle.triple.proofs.product.Tie as tie
-use Rattle.triple.proofs.product.Reads as reads
-use Rattle.triple.proofs.product.Lts as lts
-use Rattle.triple.proofs.insert_products.Reads as insert-products-reads
-use Rattle.vector.proofs.y_multiples.Reads as y-multiples-reads
 
 abbrev Inv-loop : tie.InvT-loop
-Inv-loop p f t1 d1 t2 d2 t₀ d₀ j₀ t d j = ?
+Inv-loop p f t1 d1 t2 d2 t₀ d₀ j₀ t d j = Multiplying p f t1 t2 t d j
 
 abbrev μ-loop : tie.MeasureT-loop
-μ-loop p f t1 d1 t2 d2 t₀ d₀ j₀ t d j = ?
+μ-loop p f t1 d1 t2 d2 t₀ d₀ j₀ t d j = 3 - j
 
--- src/lib.rt:95:5
 loop-holds : tie.Need-loop-holds Inv-loop μ-loop
-loop-holds c = ?
+loop-holds c = multiply-start (c .before .before .pre)
 
--- src/lib.rt:96:17
 mul-e : tie.Need-mul-e Inv-loop μ-loop
-mul-e c = ?
+mul-e c = omega arith
 
--- src/lib.rt:96:17
 element-copy-out-e : tie.Need-element-copy-out-e Inv-loop μ-loop
-element-copy-out-e c = ?
+element-copy-out-e c = omega arith
 
--- src/lib.rt:97:44
 mul-y-multiples : tie.Need-mul-y-multiples Inv-loop μ-loop
-mul-y-multiples c = ?
+mul-y-multiples c = omega arith
 
--- src/lib.rt:97:44
 index-1-y-multiples : tie.Need-index-1-y-multiples Inv-loop μ-loop
-index-1-y-multiples c = ?
+index-1-y-multiples c = omega arith
 
--- src/lib.rt:97:52
 add-y-multiples : tie.Need-add-y-multiples Inv-loop μ-loop
-add-y-multiples c = ?
+add-y-multiples c = omega (arith, c .before .before .before .before .before .before .pre .small₂ (c .before .before .before .loop .j) (c .before .before .loop-test .taken))
 
--- src/lib.rt:97:18
 y-multiples-requires : tie.Need-y-multiples-requires Inv-loop μ-loop
-y-multiples-requires c κs = ?
+y-multiples-requires c κs = multiples-asked (c .before .before .before .before .before .before .pre) (c .before .before .loop-test .taken)
 
--- src/lib.rt:98:41
 add-insert-products : tie.Need-add-insert-products Inv-loop μ-loop
-add-insert-products c = ?
+add-insert-products c = omega (arith, c .before .before .before .before .before .before .before .before .pre .small₂ (c .before .before .before .before .before .loop .j) (c .before .before .before .before .loop-test .taken))
 
--- src/lib.rt:98:9
 insert-products-requires : tie.Need-insert-products-requires Inv-loop μ-loop
-insert-products-requires c κs = ?
+insert-products-requires c κs = products-asked (c .before .before .before .before .before .before .before .before .before .before .pre) (c .before .before .before .before .before .before .loop-test .taken) (c .before .before .before .before .before .before .before .loop .inv) (c .before .before .before .y-multiples .ensures)
 
--- src/lib.rt:99:9
 add-j : tie.Need-add-j Inv-loop μ-loop
-add-j c = ?
+add-j c = omega arith
 
--- src/lib.rt:95:5
 loop-less : tie.Need-loop-less Inv-loop μ-loop
-loop-less c = ?
+loop-less c = omega arith
 
--- src/lib.rt:95:5
 loop-again : tie.Need-loop-again Inv-loop μ-loop
-loop-again c = ?
+loop-again c = multiply-more (c .before .before .before .before .before .before .before .before .before .before .before .pre) (c .before .before .before .before .before .before .before .loop-test .taken) (c .before .before .before .before .before .before .before .before .loop .inv) (c .before .before .before .before .y-multiples .ensures) (c .insert-products .ensures)
 
--- src/lib.rt:88:1
 returns : tie.Need-returns Inv-loop μ-loop
-returns c = ?
+returns c = multiply-end (c .before .before .before .before .pre) (c .before .loop .inv) (omega arith)
 
 pub product-spec : {M : Type 1} → statement M
 product-spec =
