@@ -1,0 +1,2 @@
+-- Divisors by value.
+pub mod Divisor
