@@ -1,3 +1,4 @@
+use Rattle.vector.proofs.Powers.{y-rows}
 use borrow.Author.Needs.{needs}
 use Rattle.vector.proofs.y_multiples.Statement.{statement}
 use Rattle.vector.proofs.y_multiples.Tie as tie
@@ -19,7 +20,7 @@ times-y-requires-2 c κs = search needs
 
 -- src/lib.rt:61:1
 returns : tie.Need-returns
-returns c = ?
+returns c = y-rows (c .before .before .before .before .pre) (c .before .before .before .times-y .ensures) (c .before .times-y2 .ensures)
 
 pub y-multiples-spec : {M : Type 1} → statement M
 y-multiples-spec = tie.close (tie.spec times-y-requires add-times-y times-y-requires-2 returns)
