@@ -3,3 +3,4 @@ pub mod Monomials
 pub mod Terms
 pub mod Table
 pub mod Members
+pub mod Divide

@@ -86,7 +86,7 @@ module _ (K : Field) (C : Curve (K .ring)) (nonzero : ¬ (C .a0 ≡ K .ring .zer
   infixl 60 _⊕_ _+ₖ_
   infixl 70 _⊗_ _·ₖ_
   infix 80 ⊖_
-  abbrev pub P : Poles (Coordinate C)
+  abbrev P : Poles (Coordinate C)
   P = poles K C nonzero
 
   pub poles-mono : (n : ℕ) → P .mono n ≡ mono C n
