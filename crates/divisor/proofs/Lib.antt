@@ -4,3 +4,7 @@ pub mod Terms
 pub mod Table
 pub mod Members
 pub mod Divide
+pub mod Basis
+pub mod Star
+pub mod Unique
+pub mod Exists

@@ -174,6 +174,12 @@ module _ (K : Field) (C : Curve (K .ring)) (nonzero : ¬ (C .a0 ≡ K .ring .zer
     pub spanned-based : Based P Spanned
     spanned-based = triple-based P p₀ p₁ p₂ a₀₁ a₀₂ a₁₂
 
+    pub spanned-each : (j : ℕ) → j ≤ 2 → Spanned (member C κ n j)
+    spanned-each j l = go (span-each P (members C κ n))
+      where
+        go : Every Spanned (members C κ n) → Spanned (member C κ n j)
+        go (a, (b, (c, _))) = class-by (λ i. Spanned (member C κ n i)) a b c j l
+
     pub lead-reached : (m : ℕ) → Lead P Spanned m → Reached κ m
     lead-reached m l = ⊎-elim (from 0 (omega arith)) (⊎-elim (from 1 (omega arith)) (from 2 (omega arith))) (triple-lead P p₀ p₁ p₂ a₀₁ a₀₂ a₁₂ m l)
       where

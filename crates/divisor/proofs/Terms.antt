@@ -32,11 +32,11 @@ abbrev pub both : Bool → Bool → Bool
 both true b = b
 both false b = false
 
-both-left : (a b : Bool) → T (both a b) → T a
+pub both-left : (a b : Bool) → T (both a b) → T a
 both-left true b t = tt
 both-left false b t = t
 
-both-right : (a b : Bool) → T (both a b) → T b
+pub both-right : (a b : Bool) → T (both a b) → T b
 both-right true b t = t
 both-right false b t = absurd t
 
@@ -44,7 +44,7 @@ abbrev pub unlike : Bool → Bool
 unlike true = false
 unlike false = true
 
-unlike-not : (b : Bool) → T (unlike b) → ¬ T b
+pub unlike-not : (b : Bool) → T (unlike b) → ¬ T b
 unlike-not true t u = t
 unlike-not false t u = u
 
