@@ -2,3 +2,5 @@
 pub mod Row
 pub mod Member
 pub mod Choice
+pub mod Ideal
+pub mod Test
