@@ -4,3 +4,4 @@ pub mod Member
 pub mod Choice
 pub mod Ideal
 pub mod Test
+pub mod Pair
