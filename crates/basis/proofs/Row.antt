@@ -21,7 +21,8 @@ use Rattle.curve.specs.Coefficient.{constant-one}
 use Rattle.curve.specs.Monomial.{coefficient, mono}
 use Rattle.curve.specs.Term.{coefficient-add, coefficient-constant-mul, coefficient-ext}
 use Rattle.curve.specs.Product.{coefficient-mono}
-use Rattle.divisor.proofs.Monomials.{coefficient-mono-other, mono-one, mono-x, mono-y, mono-xy}
+use Rattle.curve.proofs.Monomial.{coefficient-mono-other}
+use Rattle.divisor.proofs.Monomials.{mono-one, mono-x, mono-y, mono-xy}
 use Rattle.vector.specs.Vector.{Vec, Top, at, res, width, element, scalar}
 use Rattle.vector.proofs.Loop.{set-cases, vec-set, zeros-at}
 use Rattle.vector.proofs.Element.{element-coefficient, element-zero}
@@ -51,7 +52,7 @@ element-set p C {v} h n c b l q z =
     go m (no f) =
         ap (el p) (getD-set-other v n m c 0 f)
         ∙ sym
-        (ap (λ u. Z p .add (Z p .mul (el p c) u) (res p v m)) (coefficient-mono-other C n m q f)
+        (ap (λ u. Z p .add (Z p .mul (el p c) u) (res p v m)) (coefficient-mono-other C m n q f)
         ∙ ap (λ u. Z p .add u (res p v m)) (L.mul-zero (Z p) _)
         ∙ L.zero-add (Z p) _)
 
