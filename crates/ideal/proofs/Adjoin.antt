@@ -1,19 +1,20 @@
 -- A based space stays based when one element is added, or all multiples of an element.
 --   sum-lead           the lead of u + w is one of u's or w's, if U and W share no lead
 --   Plus U v           u + a·v, u in U and a constant
---   rest               v + u for some u of U is zero or has a pole number that U lacks
+--   plus-old, plus-new     it holds U and v
+--   plus-space         it is a space
 --   plus-based         Plus U v is based if U is
 --   divide             r = f·q + t with t below d + 6
 --   extend-based       Extend I g is based for a based ideal I with a lead
 use mathlib.Core.Path.{_≡_, refl, sym, _∙_, ap, subst}
-use mathlib.Core.Logic.{_⊎_, inl, inr, ⊎-elim, _↔_}
+use mathlib.Core.Logic.{_⊎_, inl, inr, ⊎-elim}
 use Prim.Native.Nat.{ℕ, suc, _+_, _-_, _≤_, _<_}
 use native.Mathlib.Decide.{ℕ-discrete, decLe}
 use native.Mathlib.Omega.{arith}
 use Rattle.algebra.specs.Ring.{CommRing}
 use Rattle.algebra.proofs.Laws as laws
 use Rattle.ideal.specs.Ideal.{IsIdeal, SameIdeal}
-use Rattle.ideal.specs.Poles.{largest-gap, IsPole, Poles, HasPole}
+use Rattle.ideal.specs.Poles.{largest-gap, Poles, HasPole}
 use Rattle.ideal.proofs.Gaps.{pole-large}
 use Rattle.ideal.proofs.Degree.{below-neg, below-scale, below-step, degree, lowered, mono-has, one-pole, pole-add, pole-at, pole-cong, pole-mul, pole-nonzero, pole-number, pole-scale, pole-unique, zero-dec}
 use Rattle.ideal.proofs.Leads.{IsSpace, ideal-space, space-neg, Lead, Based, based-same}
@@ -105,7 +106,9 @@ module _ {R : CommRing} (P : Poles R) where
       at-rest : {u : Car} {n m : ℕ} → U u → HasPole P (v ⊕ u) n → ¬ Lead P U n → Dec (Lead P U m) → Dec (m ≡ n) → Dec (Lead P (Plus U v) m)
       at-rest {u} {n} {m} mu p none (yes (t, mt, pt)) b = yes (t, plus-old v mt, pt)
       at-rest {u} {n} {m} mu p none (no lack) (yes e) = yes (v ⊕ u, (one, u, one-pole P .upper, mu, simp ring), pole-at P (sym e) p)
-      at-rest {u} {n} {m} mu p none (no lack) (no e) = no (λ (h, (a, t, c, mt, q), ph). ⊎-elim lack (λ l. e (line-lead p l)) (sum-lead {U = U} {W = Line (v ⊕ u)} {u = t ⊕ ⊖ (a ⊗ u)} {w = a ⊗ (v ⊕ u)} (λ k lu lw. none (subst (Lead P U) (line-lead p lw) lu)) (s .sum mt (space-neg P s (s .scale c mu))) (a, c, refl) (pole-cong P (q ∙ simp ring) ph)))
+      at-rest {u} {n} {m} mu p none (no lack) (no e) =
+          no
+          (λ (h, (a, t, c, mt, q), ph). ⊎-elim lack (λ l. e (line-lead p l)) (sum-lead {U = U} {W = Line (v ⊕ u)} {u = t ⊕ ⊖ (a ⊗ u)} {w = a ⊗ (v ⊕ u)} (λ k lu lw. none (subst (Lead P U) (line-lead p lw) lu)) (s .sum mt (space-neg P s (s .scale c mu))) (a, c, refl) (pole-cong P (q ∙ simp ring) ph)))
 
       go : Rest U v → Based P (Plus U v)
       go (u, mu, inl e) = based-same P (inside (subst U (sym (rules.move R e ∙ laws.zero-add R (⊖ u))) (space-neg P s mu))) base
@@ -134,12 +137,14 @@ module _ {R : CommRing} (P : Poles R) where
   adjoin-in : (k : ℕ) {U I : Car → Type 0} (g : Car) → ((u : Car) → U u → I u) → IsIdeal R I → I g → (h : Car) → Adjoin k U g h → I h
   unfolding Adjoin
   adjoin-in ℕ.zero g in′ i mg h m = in′ h m
-  adjoin-in (suc k) {I = I} g in′ i mg h (a, u, c, m, e) = subst I (sym (e ∙ ap (λ t. u ⊕ a ⊗ t) (R .mul-comm g (mono k)))) (i .sum (adjoin-in k g in′ i mg u m) (i .times a (i .times (mono k) mg)))
+  adjoin-in (suc k) {I = I} g in′ i mg h (a, u, c, m, e) =
+      subst I (sym (e ∙ ap (λ t. u ⊕ a ⊗ t) (R .mul-comm g (mono k)))) (i .sum (adjoin-in k g in′ i mg u m) (i .times a (i .times (mono k) mg)))
 
   adjoin-new : (k : ℕ) {U : Car → Type 0} (g : Car) → IsSpace P U → (r : Car) → Below k r → Adjoin k U g (g ⊗ r)
   unfolding Adjoin
   adjoin-new ℕ.zero {U} g s r b = subst U (sym (ap (λ t. g ⊗ t) (below-none b) ∙ laws.mul-zero R g)) (s .nil)
-  adjoin-new (suc k) {U} g s r b = ⊎-elim (λ c. plus-old (g ⊗ mono k) (adjoin-new k g s r c)) (λ p. go (adjoin-new k g s) (lowered P b (mono-has P (pole-number P p)))) (below-step P b)
+  adjoin-new (suc k) {U} g s r b =
+      ⊎-elim (λ c. plus-old (g ⊗ mono k) (adjoin-new k g s r c)) (λ p. go (adjoin-new k g s) (lowered P b (mono-has P (pole-number P p)))) (below-step P b)
     where
       go : ((r : Car) → Below k r → Adjoin k U g (g ⊗ r)) → (a : Car) × Below 1 a × Below k (r ⊕ a ⊗ mono k) → Plus (Adjoin k U g) (g ⊗ mono k) (g ⊗ r)
       go next (a, c, b′) = (⊖ a, g ⊗ (r ⊕ a ⊗ mono k), below-neg P c, next (r ⊕ a ⊗ mono k) b′, simp ring)
@@ -149,10 +154,12 @@ module _ {R : CommRing} (P : Poles R) where
     divide-at ℕ.zero r b = (zero, r, below-mono (omega arith) b, simp ring)
     divide-at (suc n) r b = ⊎-elim (divide-at n r) (λ p. at (divide-at n) p (decLe n (d + largest-gap))) (below-step P b)
       where
-        last : (a s : Car) → (q t : Car) × Below (suc (d + largest-gap)) t × (r ⊕ a ⊗ (f ⊗ s) ≡ f ⊗ q ⊕ t) → (q t : Car) × Below (suc (d + largest-gap)) t × (r ≡ f ⊗ q ⊕ t)
+        last : (a s : Car) → (q t : Car) × Below (suc (d + largest-gap)) t × (r ⊕ a ⊗ (f ⊗ s) ≡ f ⊗ q ⊕ t)
+            → (q t : Car) × Below (suc (d + largest-gap)) t × (r ≡ f ⊗ q ⊕ t)
         last a s (q, t, b, e) = (q ⊕ ⊖ (a ⊗ s), t, b, rules.move R e ∙ simp ring)
 
-        at : ((r : Car) → Below n r → (q t : Car) × Below (suc (d + largest-gap)) t × (r ≡ f ⊗ q ⊕ t)) → HasPole P r n → Dec (n ≤ d + largest-gap) → (q t : Car) × Below (suc (d + largest-gap)) t × (r ≡ f ⊗ q ⊕ t)
+        at : ((r : Car) → Below n r → (q t : Car) × Below (suc (d + largest-gap)) t × (r ≡ f ⊗ q ⊕ t)) → HasPole P r n → Dec (n ≤ d + largest-gap)
+            → (q t : Car) × Below (suc (d + largest-gap)) t × (r ≡ f ⊗ q ⊕ t)
         at next p (yes l) = (zero, r, below-mono (omega arith) b, simp ring)
         at next p (no l) = go (lowered P b (pole-at P (omega arith) (pole-mul P pf (mono-has P {n = n - d} (pole-large (omega arith))))))
           where
@@ -170,7 +177,9 @@ module _ {R : CommRing} (P : Poles R) where
       back h (r, s, m, e) = go (divide pf r)
         where
           go : (q t : Car) × Below (suc (n + largest-gap)) t × (r ≡ f ⊗ q ⊕ t) → Adjoin (suc (n + largest-gap)) I g h
-          go (q, t, b, e′) = subst (Adjoin (suc (n + largest-gap)) I g) (sym (e ∙ rw e′ (simp ring))) (adjoin-space (suc (n + largest-gap)) g (ideal-space P i) .sum (adjoin-new (suc (n + largest-gap)) g (ideal-space P i) t b) (adjoin-old (suc (n + largest-gap)) I g ((q ⊗ g) ⊗ f ⊕ s) (i .sum (i .times (q ⊗ g) mf) m)))
+          go (q, t, b, e′) =
+              subst (Adjoin (suc (n + largest-gap)) I g) (sym (e ∙ rw e′ (simp ring)))
+              (adjoin-space (suc (n + largest-gap)) g (ideal-space P i) .sum (adjoin-new (suc (n + largest-gap)) g (ideal-space P i) t b) (adjoin-old (suc (n + largest-gap)) I g ((q ⊗ g) ⊗ f ⊕ s) (i .sum (i .times (q ⊗ g) mf) m)))
 
       same : SameIdeal R (Adjoin (suc (n + largest-gap)) I g) (Extend R I g)
       same h = (adjoin-in (suc (n + largest-gap)) g (λ u m. (zero, u, m, simp ring)) (extend-ideal R g i) (one, zero, i .nil, simp ring) h, back h)

@@ -11,8 +11,7 @@
 --   colon-colon        (f : (f : I)) = I
 --   colon-constant     (a·f : I) = (f : I) for a nonzero constant a
 --   colon-same         the colon ideals of sets with the same elements are the same
-use mathlib.Core.Path.{_≡_, refl, sym, _∙_, ap, subst}
-use mathlib.Core.Logic.{_⊎_, inl, inr, ⊎-elim, _↔_}
+use mathlib.Core.Path.{_≡_, refl, sym, _∙_, subst}
 use Prim.Native.Nat.{ℕ, suc, _+_, _-_, _≤_, _<_}
 use native.Mathlib.Decide.{ℕ-discrete, decLe}
 use native.Mathlib.Omega.{arith}
@@ -28,7 +27,7 @@ use Rattle.ideal.proofs.Rules as rules
 use Rattle.ideal.proofs.Rules.{ring}
 
 module _ (R : CommRing) where
-  open CommRing R using (Car, zero, one, add as _⊕_, mul as _⊗_, neg as ⊖_)
+  open CommRing R using (Car, zero, add as _⊕_, mul as _⊗_)
 
   infixl 60 _⊕_
   infixl 70 _⊗_
@@ -49,12 +48,11 @@ abbrev pub Taken : {R : CommRing} (P : Poles R) → R .Car → ℕ → (R .Car �
 Taken {R} P f d I g n = (v : R .Car) × I v × HasPole P v n × Ker P f d (R .mul g v)
 
 module _ {R : CommRing} (P : Poles R) {f : R .Car} {d : ℕ} (pf : HasPole P f d) where
-  open CommRing R using (Car, zero, one, add as _⊕_, mul as _⊗_, neg as ⊖_)
-  open Poles P using (Below, mono, below-add, below-mono)
+  open CommRing R using (Car, zero, one, add as _⊕_, mul as _⊗_)
+  open Poles P using (Below, mono, below-mono)
 
   infixl 60 _⊕_
   infixl 70 _⊗_
-  infix 80 ⊖_
   pub colon-not : {I : Car → Type 0} {g u : Car} {n m : ℕ} → Colon R f I g → HasPole P g n → I u → HasPole P u m → ¬ (n + m ≡ d + largest-gap)
   colon-not {I} {g} {u} k pg iu pu e = go (k u iu)
     where
@@ -103,7 +101,8 @@ module _ {R : CommRing} (P : Poles R) {f : R .Car} {d : ℕ} (pf : HasPole P f d
       Solved n l = (g : Car) × HasPole P g n × ((m : ℕ) → m < l → Lead P I m → Taken P f d I g m)
 
       module _ {n : ℕ} (pn : IsPole n) (free : (m : ℕ) → n + m ≡ d + largest-gap → ¬ Lead P I m) where
-        one-more : {l : ℕ} (g : Car) → ((m : ℕ) → m < l → Lead P I m → Taken P f d I g m) → (Lead P I l → Taken P f d I g l) → (m : ℕ) → m < suc l → Lead P I m → Taken P f d I g m
+        one-more : {l : ℕ} (g : Car) → ((m : ℕ) → m < l → Lead P I m → Taken P f d I g m) → (Lead P I l → Taken P f d I g l) → (m : ℕ) → m < suc l
+            → Lead P I m → Taken P f d I g m
         one-more {l} g old new m b lead = go (ℕ-discrete m l)
           where
             go : Dec (m ≡ l) → Taken P f d I g m
@@ -116,9 +115,11 @@ module _ {R : CommRing} (P : Poles R) {f : R .Car} {d : ℕ} (pf : HasPole P f d
         solve-step l (g, pg, old) = go (base l)
           where
             kept : {s : ℕ} (a : Car) → Below 1 a → IsPole s → s + l ≡ d + largest-gap → (m : ℕ) → m < l → Taken P f d I g m → Taken P f d I (g ⊕ a ⊗ mono s) m
-            kept {s} a c ps e m b (v, iv, pv, k) = (v, iv, pv, subst (Ker P f d) (simp ring) (ker-sum P pf k (ker-scale P pf c (ker-below P pf (below-mono (omega arith) (pole-mul P (mono-has P ps) pv .upper))))))
+            kept {s} a c ps e m b (v, iv, pv, k) =
+                (v, iv, pv, subst (Ker P f d) (simp ring) (ker-sum P pf k (ker-scale P pf c (ker-below P pf (below-mono (omega arith) (pole-mul P (mono-has P ps) pv .upper))))))
 
-            change : {s : ℕ} (v : Car) → I v → HasPole P v l → IsPole s → s + l ≡ d + largest-gap → s < n → (a : Car) × Below 1 a × Ker P f d (g ⊗ v ⊕ a ⊗ (mono s ⊗ v)) → Solved n (suc l)
+            change : {s : ℕ} (v : Car) → I v → HasPole P v l → IsPole s → s + l ≡ d + largest-gap → s < n
+                → (a : Car) × Below 1 a × Ker P f d (g ⊗ v ⊕ a ⊗ (mono s ⊗ v)) → Solved n (suc l)
             change {s} v iv pv ps e less (a, c, k) = (
               g ⊕ a ⊗ mono s,
               pole-add P pg (below-scale P c (below-mono less (mono-has P ps .upper))),
@@ -128,7 +129,8 @@ module _ {R : CommRing} (P : Poles R) {f : R .Car} {d : ℕ} (pf : HasPole P f d
             at-across : {s : ℕ} → IsPole s → s + l ≡ d + largest-gap → (v : Car) → I v → HasPole P v l → Dec (s < n) → Dec (s ≡ n) → Solved n (suc l)
             at-across {s} ps e v iv pv (yes less) b = change v iv pv ps e less (ker-lower P pf (pole-at P e (pole-mul P (mono-has P ps) pv)) (g ⊗ v))
             at-across {s} ps e v iv pv (no a) (yes eq) = absurd (free l (omega arith) (v, iv, pv))
-            at-across {s} ps e v iv pv (no a) (no b) = (g, pg, one-more g old (λ _. (v, iv, pv, ker-below P pf (below-mono (omega arith) (pole-mul P pg pv .upper)))))
+            at-across {s} ps e v iv pv (no a) (no b) =
+                (g, pg, one-more g old (λ _. (v, iv, pv, ker-below P pf (below-mono (omega arith) (pole-mul P pg pv .upper)))))
 
             at : Split d l → (v : Car) → I v → HasPole P v l → Solved n (suc l)
             at (above ps e) v iv pv = (g, pg, one-more g old (λ _. above-taken member g ps e))
@@ -147,7 +149,8 @@ module _ {R : CommRing} (P : Poles R) {f : R .Car} {d : ℕ} (pf : HasPole P f d
         unfolding Solved
         colon-lead = go (solve (suc (d + largest-gap)))
           where
-            at : {g : Car} → ((m : ℕ) → m < suc (d + largest-gap) → Lead P I m → Taken P f d I g m) → (m : ℕ) → Lead P I m → Dec (m < suc (d + largest-gap)) → Taken P f d I g m
+            at : {g : Car} → ((m : ℕ) → m < suc (d + largest-gap) → Lead P I m → Taken P f d I g m) → (m : ℕ) → Lead P I m
+                → Dec (m < suc (d + largest-gap)) → Taken P f d I g m
             at {g} old m lead (yes b) = old m b lead
             at {g} old m lead (no b) = above-taken member g (pole-large {n = m - d} (omega arith)) (omega arith)
 

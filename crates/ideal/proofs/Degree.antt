@@ -1,28 +1,31 @@
 -- Pole numbers of elements of R: sums, products, constants. R is a domain.
 --   one-pole, one-nonzero          1 has pole number 0
+--   neg-one-constant               −1 is a constant
 --   below-scale, below-neg         Below n is closed under constant multiples and negatives
 --   below-step                     an element below n + 1 is below n or has pole number n
 --   degree                         an element is zero or has a pole number
 --   zero-dec                       it is decidable whether an element is zero
 --   pole-below, pole-unique        an element has one pole number
 --   pole-number                    a pole number is no gap
---   pole-nonzero                   an element with a pole number is not zero
+--   pole-nonzero, pole-some        an element has a pole number exactly if it is not zero
+--   pole-cong, pole-at             pole numbers along equations of elements and of numbers
+--   mono-has                       mono n has the pole number n
+--   constant-pole                  a nonzero constant has the pole number 0
+--   lowered                        a constant multiple of h of pole number n takes g below n
 --   pole-add, pole-mul, pole-neg   pole numbers of sums, products, negatives
 --   pole-scale                     … and of nonzero constant multiples
 --   domain, cancel, mul-nonzero    R is a domain
 --   constant-inverse               a nonzero constant is invertible
 --   monic-pole, monic-multiple     monic elements, and the monic constant multiple of an element
-use mathlib.Core.Path.{_≡_, refl, sym, _∙_, ap, subst}
+use mathlib.Core.Path.{_≡_, sym, _∙_, ap, subst}
 use mathlib.Core.Logic.{_⊎_, inl, inr, ⊎-elim}
 use Prim.Native.Nat.{ℕ, suc, _+_, _≤_, _<_}
-use native.Mathlib.Decide.{ℕ-discrete, decLe}
-use native.Mathlib.Numerals.{unary-clauses}
+use native.Mathlib.Decide.{decLe}
 use native.Mathlib.Omega.{arith}
 use Rattle.algebra.specs.Ring.{CommRing}
 use Rattle.algebra.proofs.Laws as laws
-use Rattle.ideal.specs.Poles.{largest-gap, IsGap, IsPole, Poles, HasPole, Monic}
+use Rattle.ideal.specs.Poles.{IsPole, Poles, HasPole, Monic}
 use Rattle.ideal.proofs.Gaps.{pole-zero}
-use Rattle.ideal.proofs.Rules as rules
 use Rattle.ideal.proofs.Rules.{ring}
 
 module _ {R : CommRing} (P : Poles R) where

@@ -3,7 +3,7 @@
 --   every-map          … then so does what follows from Q
 --   every-append       … of both lists, then of one after the other
 --   every-left, every-right    … and back
---   every-image        Q of each φ x is Q of each element of map φ xs
+--   every-image, every-source  Q of each φ x is Q of each element of map φ xs
 use mathlib.Core.List.{List, [], _∷_, _++_, map}
 
 abbrev pub Every : {X : Type 0} → (X → Type 0) → List X → Type 0

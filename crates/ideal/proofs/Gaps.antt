@@ -2,13 +2,14 @@
 --   pole-apart         a pole number is none of 1, 2 and 5
 --   pole-intro         a number that is none of 1, 2 and 5 is a pole number
 --   pole-large         every number from 6 on is a pole number
+--   pole-zero          0 is a pole number
 --   gap-dec            it is decidable whether a number is a gap
 --   Split d m          m − d is a pole number, or d + 5 − m is one
 --   split              one of the two always holds
 --   split-apart        not both hold
 use mathlib.Core.Path.{_≡_}
-use mathlib.Core.Logic.{_⊎_, inl, inr, ⊎-elim}
-use Prim.Native.Nat.{ℕ, suc, _+_, _-_, _≤_, _<_}
+use mathlib.Core.Logic.{inl, inr, ⊎-elim}
+use Prim.Native.Nat.{ℕ, _+_, _-_, _≤_}
 use native.Mathlib.Decide.{ℕ-discrete, decLe}
 use native.Mathlib.Omega.{arith}
 use Rattle.ideal.specs.Poles.{largest-gap, IsGap, IsPole}

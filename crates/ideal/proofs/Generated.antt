@@ -3,12 +3,14 @@
 --   extend-ideal           … is an ideal
 --   generated-ideal        Generated gs is an ideal
 --   generated-each         it holds each element of gs
+--   generated-first, generated-rest    … and what the rest of gs generates
 --   generated-in           an ideal that holds each element of gs holds it
 --   generated-same         two lists that generate each other's elements generate the same ideal
 --   products gs hs         the products of one element from each list
+--   products-each          they are in I·J if gs is in I and hs in J
+--   products-source        what holds of each of them holds of each g·h
 --   generated-product      they generate the product of the ideals of gs and hs
 use mathlib.Core.Path.{_≡_, refl, sym, _∙_, ap, subst}
-use mathlib.Core.Logic.{_↔_}
 use mathlib.Core.List.{List, [], _∷_, _++_, map}
 use Rattle.algebra.specs.Ring.{CommRing}
 use Rattle.algebra.proofs.Laws as laws
@@ -18,11 +20,10 @@ use Rattle.ideal.proofs.Product.{product-of, product-in, product-ideal,
 use Rattle.ideal.proofs.Rules.{ring}
 
 module _ (R : CommRing) where
-  open CommRing R using (Car, zero, one, add as _⊕_, mul as _⊗_, neg as ⊖_)
+  open CommRing R using (Car, zero, one, add as _⊕_, mul as _⊗_)
 
   infixl 60 _⊕_
   infixl 70 _⊗_
-  infix 80 ⊖_
   abbrev pub Extend : (Car → Type 0) → Car → Car → Type 0
   Extend I g h = (r s : Car) × I s × (h ≡ r ⊗ g ⊕ s)
 
@@ -70,21 +71,29 @@ module _ (R : CommRing) where
 
   pub products-each : (I J : Car → Type 0) (gs hs : List Car) → Every I gs → Every J hs → Every (Product R I J) (products gs hs)
   products-each I J [] hs _ ns = tt
-  products-each I J (g ∷ gs) hs (m, ms) ns = every-append (Product R I J) (map (λ h. g ⊗ h) hs) (products gs hs) (every-image (Product R I J) (λ h. g ⊗ h) hs (every-map (λ h n. product-of R m n) hs ns)) (products-each I J gs hs ms ns)
+  products-each I J (g ∷ gs) hs (m, ms) ns =
+      every-append (Product R I J) (map (λ h. g ⊗ h) hs) (products gs hs)
+      (every-image (Product R I J) (λ h. g ⊗ h) hs (every-map (λ h n. product-of R m n) hs ns)) (products-each I J gs hs ms ns)
 
   pub products-source : (T : Car → Type 0) (gs hs : List Car) → Every T (products gs hs) → Every (λ g. Every (λ h. T (g ⊗ h)) hs) gs
   products-source T [] hs _ = tt
-  products-source T (g ∷ gs) hs ms = (every-source T (λ h. g ⊗ h) hs (every-left T (map (λ h. g ⊗ h) hs) (products gs hs) ms), products-source T gs hs (every-right T (map (λ h. g ⊗ h) hs) (products gs hs) ms))
+  products-source T (g ∷ gs) hs ms =
+      (every-source T (λ h. g ⊗ h) hs (every-left T (map (λ h. g ⊗ h) hs) (products gs hs) ms), products-source T gs hs (every-right T (map (λ h. g ⊗ h) hs) (products gs hs) ms))
 
   pub generated-product : (gs hs : List Car) → SameIdeal R (Product R (Generated R gs) (Generated R hs)) (Generated R (products gs hs))
-  generated-product gs hs g = (product-in R t each, generated-in (product-ideal R (generated-ideal gs)) (products gs hs) (products-each (Generated R gs) (Generated R hs) gs hs (generated-each gs) (generated-each hs)) g)
+  generated-product gs hs g =
+      (product-in R t each, generated-in (product-ideal R (generated-ideal gs)) (products gs hs) (products-each (Generated R gs) (Generated R hs) gs hs (generated-each gs) (generated-each hs)) g)
     where
       t : IsIdeal R (Generated R (products gs hs))
       t = generated-ideal (products gs hs)
 
       -- g·b for g of the list gs, then a·b for a in its ideal
-      row : (b : Car) → Generated R hs b → Every (λ g. Every (λ h. Generated R (products gs hs) (g ⊗ h)) hs) gs → Every (λ g. Generated R (products gs hs) (g ⊗ b)) gs
-      row b mb = every-map (λ g ms. subst (Generated R (products gs hs)) (R .mul-comm b g) (generated-in (taken-ideal R g t) hs (every-map (λ h m. subst (Generated R (products gs hs)) (R .mul-comm g h) m) hs ms) b mb)) gs
+      row : (b : Car) → Generated R hs b → Every (λ g. Every (λ h. Generated R (products gs hs) (g ⊗ h)) hs) gs
+          → Every (λ g. Generated R (products gs hs) (g ⊗ b)) gs
+      row b mb =
+          every-map
+          (λ g ms. subst (Generated R (products gs hs)) (R .mul-comm b g) (generated-in (taken-ideal R g t) hs (every-map (λ h m. subst (Generated R (products gs hs)) (R .mul-comm g h) m) hs ms) b mb)) gs
 
       each : (a b : Car) → Generated R gs a → Generated R hs b → Generated R (products gs hs) (a ⊗ b)
-      each a b ma mb = generated-in (taken-ideal R b t) gs (row b mb (products-source (Generated R (products gs hs)) gs hs (generated-each (products gs hs)))) a ma
+      each a b ma mb =
+          generated-in (taken-ideal R b t) gs (row b mb (products-source (Generated R (products gs hs)) gs hs (generated-each (products gs hs)))) a ma

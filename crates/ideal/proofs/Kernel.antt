@@ -9,22 +9,22 @@
 --   ker-not                        no element of pole number d + 5 is in the kernel
 --   ker-lower                      a constant multiple of an element of pole number d + 5 takes h into the kernel
 --   nondegenerate                  if h·r is in the kernel for each r, then h is a multiple of f
-use mathlib.Core.Path.{_≡_, refl, sym, _∙_, ap, subst}
-use mathlib.Core.Logic.{_⊎_, inl, inr, ⊎-elim}
-use Prim.Native.Nat.{ℕ, suc, _+_, _-_, _≤_, _<_}
-use native.Mathlib.Decide.{ℕ-discrete, decLe}
+use mathlib.Core.Path.{_≡_, sym, _∙_, subst}
+use mathlib.Core.Logic.{⊎-elim}
+use Prim.Native.Nat.{ℕ, suc, _+_, _-_, _≤_}
+use native.Mathlib.Decide.{decLe}
 use native.Mathlib.Omega.{arith}
 use Rattle.algebra.specs.Ring.{CommRing}
 use Rattle.algebra.proofs.Laws as laws
 use Rattle.ideal.specs.Ideal.{Multiple}
 use Rattle.ideal.specs.Poles.{largest-gap, IsPole, Poles, HasPole}
 use Rattle.ideal.proofs.Gaps.{Split, above, across, split, pole-apart, pole-large}
-use Rattle.ideal.proofs.Degree.{below-neg, below-scale, below-step, degree, lowered, mono-has, neg-one-constant, pole-add, pole-at, pole-cong, pole-mul, pole-neg, pole-nonzero, pole-number, pole-unique}
+use Rattle.ideal.proofs.Degree.{below-scale, below-step, degree, lowered, mono-has, neg-one-constant, pole-add, pole-at, pole-cong, pole-mul, pole-neg, pole-nonzero, pole-number, pole-unique}
 use Rattle.ideal.proofs.Rules as rules
 use Rattle.ideal.proofs.Rules.{ring}
 
 module _ {R : CommRing} (P : Poles R) where
-  open CommRing R using (Car, zero, one, add as _⊕_, mul as _⊗_, neg as ⊖_)
+  open CommRing R using (Car, zero, add as _⊕_, mul as _⊗_, neg as ⊖_)
   open Poles P using (Below, mono, below-zero, below-add, below-mono, below-none, below-some)
 
   infixl 60 _⊕_
@@ -35,7 +35,8 @@ module _ {R : CommRing} (P : Poles R) where
 
   module _ {f : Car} {d : ℕ} (pf : HasPole P f d) where
     pub multiple-pole : {q : Car} {n : ℕ} → HasPole P (f ⊗ q) n → (s : ℕ) × IsPole s × (n ≡ d + s)
-    multiple-pole {q} {n} p = ⊎-elim (λ e. absurd (pole-nonzero P p (rw e (laws.mul-zero R f)))) (λ (s, ps). (s, pole-number P ps, pole-unique P p (pole-mul P pf ps))) (degree P q)
+    multiple-pole {q} {n} p =
+        ⊎-elim (λ e. absurd (pole-nonzero P p (rw e (laws.mul-zero R f)))) (λ (s, ps). (s, pole-number P ps, pole-unique P p (pole-mul P pf ps))) (degree P q)
 
     pub multiple-not : {q : Car} → ¬ HasPole P (f ⊗ q) (d + largest-gap)
     multiple-not p = go (multiple-pole p)
@@ -74,13 +75,15 @@ module _ {R : CommRing} (P : Poles R) where
         near : (a : Car) × Below 1 a × Below (d + largest-gap) (h ⊕ a ⊗ w) → (a : Car) × Below 1 a × Ker f d (h ⊕ a ⊗ w)
         near (a, c, b′) = (a, c, ker-below b′)
 
-        far : ((h : Car) → Below n h → (a : Car) × Below 1 a × Ker f d (h ⊕ a ⊗ w)) → (s : ℕ) → (a : Car) × Below 1 a × Below n (h ⊕ a ⊗ (f ⊗ mono s)) → (a : Car) × Below 1 a × Ker f d (h ⊕ a ⊗ w)
+        far : ((h : Car) → Below n h → (a : Car) × Below 1 a × Ker f d (h ⊕ a ⊗ w)) → (s : ℕ) → (a : Car) × Below 1 a × Below n (h ⊕ a ⊗ (f ⊗ mono s))
+            → (a : Car) × Below 1 a × Ker f d (h ⊕ a ⊗ w)
         far next s (t, c, b′) = last (next (h ⊕ t ⊗ (f ⊗ mono s)) b′)
           where
             last : (a : Car) × Below 1 a × Ker f d (h ⊕ t ⊗ (f ⊗ mono s) ⊕ a ⊗ w) → (a : Car) × Below 1 a × Ker f d (h ⊕ a ⊗ w)
             last (a, c, k) = (a, c, ker-less {q = t ⊗ mono s} (subst (Ker f d) (simp ring) k))
 
-        at : ((h : Car) → Below n h → (a : Car) × Below 1 a × Ker f d (h ⊕ a ⊗ w)) → HasPole P h n → Dec (n ≤ d + largest-gap) → (a : Car) × Below 1 a × Ker f d (h ⊕ a ⊗ w)
+        at : ((h : Car) → Below n h → (a : Car) × Below 1 a × Ker f d (h ⊕ a ⊗ w)) → HasPole P h n → Dec (n ≤ d + largest-gap)
+            → (a : Car) × Below 1 a × Ker f d (h ⊕ a ⊗ w)
         at next p (yes l) = near (lowered P (below-mono (omega arith) (p .upper)) pw)
         at next p (no l) = far next (n - d) (lowered P (p .upper) (pole-at P (omega arith) (pole-mul P pf (mono-has P {n = n - d} (pole-large (omega arith))))))
 
@@ -91,7 +94,8 @@ module _ {R : CommRing} (P : Poles R) where
     nondegenerate-at ℕ.zero h b k = (zero, below-none b ∙ sym (laws.mul-zero R f))
     nondegenerate-at (suc n) h b k = ⊎-elim (λ c. nondegenerate-at n h c k) (λ p. at (nondegenerate-at n) p (split d n)) (below-step P b)
       where
-        go : ((h : Car) → Below n h → ((r : Car) → Ker f d (h ⊗ r)) → Multiple R f h) → (s : ℕ) → (a : Car) × Below 1 a × Below n (h ⊕ a ⊗ (f ⊗ mono s)) → Multiple R f h
+        go : ((h : Car) → Below n h → ((r : Car) → Ker f d (h ⊗ r)) → Multiple R f h) → (s : ℕ)
+            → (a : Car) × Below 1 a × Below n (h ⊕ a ⊗ (f ⊗ mono s)) → Multiple R f h
         go next s (a, c, b′) = last (next (h ⊕ a ⊗ (f ⊗ mono s)) b′ (λ r. subst (Ker f d) (simp ring) (ker-more {q = a ⊗ mono s ⊗ r} (k r))))
           where
             last : Multiple R f (h ⊕ a ⊗ (f ⊗ mono s)) → Multiple R f h

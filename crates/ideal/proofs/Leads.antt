@@ -1,18 +1,21 @@
 -- Spaces over the constants, their leads, and the lowering of an element by elements of a space.
 --   IsSpace I          I holds zero and is closed under sums and constant multiples
 --   ideal-space        an ideal is a space
+--   space-neg          a space is closed under negatives
 --   Lead I n           an element of I with pole number n
 --   Based I            for each n it is decidable whether I has a lead n
 --   lead-monic         the element of a lead can be taken monic
 --   lowering           if I ⊆ I′ and every lead of I′ is one of I, then I′ ⊆ I
 --   least-lead         a based space with a lead has a lowest one
 --   least              a based space with a lead has a least element
---   least-unique       … and only one
+--   least-unique       … and only one; least-pole: with one pole number
+--   least-below        an element of J below that pole number is zero
+--   least-same         sets with the same elements have the same least element
 --   least-multiple     an element of J with the pole number of the least is a constant multiple of it
 --   based-same         sets with the same elements are based together
-use mathlib.Core.Path.{_≡_, refl, sym, _∙_, ap, subst}
-use mathlib.Core.Logic.{_⊎_, inl, inr, ⊎-elim, _↔_}
-use Prim.Native.Nat.{ℕ, suc, _+_, _≤_, _<_}
+use mathlib.Core.Path.{_≡_, sym, _∙_, subst}
+use mathlib.Core.Logic.{_⊎_, inl, inr, ⊎-elim}
+use Prim.Native.Nat.{ℕ, suc, _≤_, _<_}
 use native.Mathlib.Decide.{ℕ-discrete, decLe}
 use native.Mathlib.Omega.{arith}
 use Rattle.algebra.specs.Ring.{CommRing}
@@ -20,12 +23,11 @@ use Rattle.algebra.proofs.Laws as laws
 use Rattle.ideal.specs.Ideal.{IsIdeal, SameIdeal}
 use Rattle.ideal.specs.Poles.{Poles, HasPole, Monic}
 use Rattle.ideal.specs.Reduced.{Least}
-use Rattle.ideal.proofs.Degree.{below-neg, below-step, degree, lowered, monic-pole, monic-multiple, pole-below, pole-scale, pole-unique, neg-one-constant}
-use Rattle.ideal.proofs.Rules as rules
+use Rattle.ideal.proofs.Degree.{below-neg, below-step, degree, lowered, monic-pole, monic-multiple, pole-below, neg-one-constant}
 use Rattle.ideal.proofs.Rules.{ring}
 
 module _ {R : CommRing} (P : Poles R) where
-  open CommRing R using (Car, zero, one, add as _⊕_, mul as _⊗_, neg as ⊖_)
+  open CommRing R using (Car, zero, add as _⊕_, mul as _⊗_, neg as ⊖_)
   open Poles P using (Below, mono, below-add, below-none, below-some)
 
   infixl 60 _⊕_
@@ -54,9 +56,11 @@ module _ {R : CommRing} (P : Poles R) where
       go : (a : Car) × Below 1 a × (¬ (a ≡ zero)) × Monic P (a ⊗ u) n → (u : Car) × I u × Monic P u n
       go (a, c, nz, mon) = (a ⊗ u, s .scale c m, mon)
 
-  lowering-at : (n : ℕ) {I I′ : Car → Type 0} → IsSpace I → IsSpace I′ → ((g : Car) → I g → I′ g) → ((n : ℕ) → Lead I′ n → Lead I n) → (g : Car) → I′ g → Below n g → I g
+  lowering-at : (n : ℕ) {I I′ : Car → Type 0} → IsSpace I → IsSpace I′ → ((g : Car) → I g → I′ g) → ((n : ℕ) → Lead I′ n → Lead I n) → (g : Car)
+      → I′ g → Below n g → I g
   lowering-at ℕ.zero {I} s s′ in′ lead g m b = subst I (sym (below-none b)) (s .nil)
-  lowering-at (suc n) {I} {I′} s s′ in′ lead g m b = ⊎-elim (lowering-at n s s′ in′ lead g m) (λ p. at (lowering-at n s s′ in′ lead) p (lead n (g, m, p))) (below-step P b)
+  lowering-at (suc n) {I} {I′} s s′ in′ lead g m b =
+      ⊎-elim (lowering-at n s s′ in′ lead g m) (λ p. at (lowering-at n s s′ in′ lead) p (lead n (g, m, p))) (below-step P b)
     where
       go : ((g : Car) → I′ g → Below n g → I g) → (v : Car) → I v → (a : Car) × Below 1 a × Below n (g ⊕ a ⊗ v) → I g
       go next v iv (a, c, b′) = subst I (simp ring) (s .sum (next (g ⊕ a ⊗ v) (s′ .sum m (s′ .scale c (in′ v iv))) b′) (space-neg s (s .scale c iv)))
@@ -104,13 +108,17 @@ module _ {R : CommRing} (P : Poles R) where
   least-multiple {J} {f} {g} l s m p = go (lowered P (p .upper) (monic-pole P (l .monic)))
     where
       go : (a : Car) × Below 1 a × Below (l .pole) (g ⊕ a ⊗ f) → (a : Car) × Below 1 a × (g ≡ a ⊗ f)
-      go (a, c, b) = (⊖ a, below-neg P c, laws.neg-unique R (a ⊗ f) g (laws.plus-comm R (a ⊗ f) g ∙ least-below l (s .sum m (s .scale c (l .member))) b) ∙ simp ring)
+      go (a, c, b) =
+          (⊖ a, below-neg P c, laws.neg-unique R (a ⊗ f) g (laws.plus-comm R (a ⊗ f) g ∙ least-below l (s .sum m (s .scale c (l .member))) b) ∙ simp ring)
 
   pub least-pole : {J : Car → Type 0} {f f′ : Car} (l : Least P J f) (l′ : Least P J f′) → l .pole ≡ l′ .pole
-  least-pole {J} {f} {f′} l l′ = omega (arith, l .lowest f′ (l′ .pole) (l′ .member) (monic-pole P (l′ .monic)), l′ .lowest f (l .pole) (l .member) (monic-pole P (l .monic)))
+  least-pole {J} {f} {f′} l l′ =
+      omega (arith, l .lowest f′ (l′ .pole) (l′ .member) (monic-pole P (l′ .monic)), l′ .lowest f (l .pole) (l .member) (monic-pole P (l .monic)))
 
   pub least-unique : {J : Car → Type 0} {f f′ : Car} → IsSpace J → Least P J f → Least P J f′ → f ≡ f′
-  least-unique {J} {f} {f′} s l l′ = laws.sub-zero→eq R f f′ (least-below l (s .sum (l .member) (space-neg s (l′ .member))) (subst (Below (l .pole)) (simp ring) (below-add (l .monic .rest) (below-neg P rest′))))
+  least-unique {J} {f} {f′} s l l′ =
+      laws.sub-zero→eq R f f′
+      (least-below l (s .sum (l .member) (space-neg s (l′ .member))) (subst (Below (l .pole)) (simp ring) (below-add (l .monic .rest) (below-neg P rest′))))
     where
       rest′ : Below (l .pole) (f′ ⊕ ⊖ mono (l .pole))
       rest′ = subst (λ n. Below n (f′ ⊕ ⊖ mono n)) (sym (least-pole l l′)) (l′ .monic .rest)

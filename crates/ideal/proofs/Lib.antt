@@ -1,5 +1,6 @@
 -- The theory of reduced ideals over a ring with pole numbers.
 pub mod Rules
+pub mod Same
 pub mod Gaps
 pub mod Degree
 pub mod Leads
@@ -13,4 +14,6 @@ pub mod Recognise
 pub mod Generated
 pub mod Adjoin
 pub mod Finite
+pub mod Star
 pub mod Span
+pub mod Triple

@@ -1,8 +1,8 @@
 -- How the result of an algorithm is recognised as a colon ideal.
 --   recognise          a space U inside (f : I) is (f : I) if each pole number n that U lacks is met by a lead d + 5 − n of I
 --   colon-member       g is in (f : I), f least, if g takes an element of I of each pole number d + 1, d + 2, d + 5 into the kernel
-use mathlib.Core.Path.{_≡_, refl, sym, _∙_, ap, subst}
-use mathlib.Core.Logic.{_⊎_, inl, inr, ⊎-elim, _↔_}
+use mathlib.Core.Path.{_≡_, subst}
+use mathlib.Core.Logic.{_⊎_, inl, inr}
 use Prim.Native.Nat.{ℕ, _+_, _-_, _≤_}
 use native.Mathlib.Omega.{arith}
 use Rattle.algebra.specs.Ring.{CommRing}
@@ -11,15 +11,13 @@ use Rattle.ideal.specs.Poles.{largest-gap, IsGap, IsPole, Poles, HasPole
 use Rattle.ideal.proofs.Gaps.{gap-dec}
 use Rattle.ideal.proofs.Degree.{pole-number}
 use Rattle.ideal.proofs.Leads.{IsSpace, ideal-space, Lead, Based, lowering}
-use Rattle.ideal.proofs.Kernel.{Ker}
 use Rattle.ideal.proofs.Colon.{Taken, colon-ideal, colon-not, ker-leads, above-taken}
 
 module _ {R : CommRing} (P : Poles R) {f : R .Car} {d : ℕ} (pf : HasPole P f d) {I : R .Car → Type 0} where
-  open CommRing R using (Car, zero, one, add as _⊕_, mul as _⊗_, neg as ⊖_)
+  open CommRing R using (Car)
 
-  infixl 60 _⊕_
-  infixl 70 _⊗_
-  pub recognise : {U : Car → Type 0} → IsSpace P U → Based P U → ((g : Car) → U g → Colon R f I g) → ((n : ℕ) → IsPole n → ¬ Lead P U n → (m : ℕ) × Lead P I m × (n + m ≡ d + largest-gap)) → SameIdeal R U (Colon R f I)
+  pub recognise : {U : Car → Type 0} → IsSpace P U → Based P U → ((g : Car) → U g → Colon R f I g)
+      → ((n : ℕ) → IsPole n → ¬ Lead P U n → (m : ℕ) × Lead P I m × (n + m ≡ d + largest-gap)) → SameIdeal R U (Colon R f I)
   recognise {U} s base in′ met g = (in′ g, lowering P s (ideal-space P (colon-ideal R f I)) in′ leads g)
     where
       at : (n : ℕ) → Lead P (Colon R f I) n → Dec (Lead P U n) → Lead P U n
@@ -32,7 +30,8 @@ module _ {R : CommRing} (P : Poles R) {f : R .Car} {d : ℕ} (pf : HasPole P f d
       leads : (n : ℕ) → Lead P (Colon R f I) n → Lead P U n
       leads n l = at n l (base n)
 
-  pub colon-member : IsIdeal R I → I f → ((h : Car) (n : ℕ) → I h → HasPole P h n → d ≤ n) → (g : Car) → ((m : ℕ) → IsGap m → (¬ Lead P I (d + m)) ⊎ Taken P f d I g (d + m)) → Colon R f I g
+  pub colon-member : IsIdeal R I → I f → ((h : Car) (n : ℕ) → I h → HasPole P h n → d ≤ n) → (g : Car)
+      → ((m : ℕ) → IsGap m → (¬ Lead P I (d + m)) ⊎ Taken P f d I g (d + m)) → Colon R f I g
   colon-member i mf lowest g near = ker-leads P pf i (λ n lead. go n lead (gap-dec (n - d)))
     where
       at : (n : ℕ) → Lead P I n → d ≤ n → (¬ Lead P I (d + (n - d))) ⊎ Taken P f d I g (d + (n - d)) → Taken P f d I g n

@@ -12,46 +12,35 @@
 --   reduced-exists         a based ideal with a lead has a reduced ideal
 --   reduced-footprint      the reduced ideal of a based ideal has a small footprint
 --   reduced-equivalent     f′·J = f·(f′ : (f : J)), so J is equivalent to its reduced ideal
-use mathlib.Core.Path.{_≡_, refl, sym, _∙_, ap, subst}
-use mathlib.Core.Logic.{_↔_, Iff·rfl, Iff·symm, Iff·trans}
+use mathlib.Core.Path.{_≡_, sym, _∙_, ap, subst}
 use Prim.Native.Nat.{ℕ, _+_, _-_, _≤_}
 use native.Mathlib.Decide.{decLe}
 use native.Mathlib.Omega.{arith}
 use Rattle.algebra.specs.Ring.{CommRing}
 use Rattle.algebra.proofs.Laws as laws
 use Rattle.ideal.specs.Ideal.{IsIdeal, Multiple, Colon, SameIdeal, Equivalent}
-use Rattle.ideal.specs.Poles.{largest-gap, Poles, HasPole, Monic}
+use Rattle.ideal.specs.Poles.{largest-gap, Poles, HasPole}
 use Rattle.ideal.specs.Reduced.{Least, IsStar, IsReduced}
+use Rattle.ideal.proofs.Same.{same-refl, same-sym, same-trans, ideal-same}
 use Rattle.ideal.proofs.Gaps.{pole-large}
 use Rattle.ideal.proofs.Degree.{cancel, monic-pole, pole-nonzero}
 use Rattle.ideal.proofs.Leads.{ideal-space, Lead, Based, based-same, least, least-same, least-unique}
 use Rattle.ideal.proofs.Colon.{colon-ideal, colon-self, colon-same, colon-not, colon-lead, colon-based, colon-colon}
-use Rattle.ideal.proofs.Class.{equivalent-refl, equivalent-same, equivalent-trans, equivalent-ideal, equivalent-least, star-class}
+use Rattle.ideal.proofs.Class.{equivalent-refl, equivalent-ideal, equivalent-least, star-class}
 use Rattle.ideal.proofs.Rules.{ring}
 
 module _ {R : CommRing} (P : Poles R) where
-  open CommRing R using (Car, zero, one, add as _⊕_, mul as _⊗_, neg as ⊖_)
+  open CommRing R using (Car, mul as _⊗_)
 
-  infixl 60 _⊕_
   infixl 70 _⊗_
-  infix 80 ⊖_
   pub record SmallFootprint (A : Car → Type 0) : Type 0 where
     pub ideal : IsIdeal R A
     pub based : Based P A
     pub leads : (n : ℕ) → 6 ≤ n → Lead P A n
 
-  pub same-sym : {I J : Car → Type 0} → SameIdeal R I J → SameIdeal R J I
-  same-sym e g = Iff·symm (e g)
-
-  pub same-trans : {I J K : Car → Type 0} → SameIdeal R I J → SameIdeal R J K → SameIdeal R I K
-  same-trans e e′ g = Iff·trans (e g) (e′ g)
-
-  pub ideal-same : {I J : Car → Type 0} → SameIdeal R I J → IsIdeal R I → IsIdeal R J
-  ideal-same e i = record { nil = e _ .0 (i .nil); sum = λ x y. e _ .0 (i .sum (e _ .1 x) (e _ .1 y)); times = λ r x. e _ .0 (i .times r (e _ .1 x)) }
-
   pub footprint-same : {A B : Car → Type 0} → SameIdeal R A B → SmallFootprint A → SmallFootprint B
   footprint-same {A} {B} e s = record {
-    ideal = ideal-same e (s .ideal);
+    ideal = ideal-same R e (s .ideal);
     based = based-same P e (s .based);
     leads = λ n l. (s .leads n l .0, e (s .leads n l .0) .0 (s .leads n l .1), s .leads n l .2);
   }
@@ -84,7 +73,7 @@ module _ {R : CommRing} (P : Poles R) where
     least = s .least;
     f′ = t .f;
     least′ = least-same P (s .same) (t .least);
-    same = same-trans (t .same) (colon-same R (t .f) (s .same));
+    same = same-trans R (t .same) (colon-same R (t .f) (s .same));
   }
 
   pub equivalent-reduced : {J A : Car → Type 0} → SmallFootprint A → Equivalent R J A → IsReduced P J A
@@ -99,20 +88,22 @@ module _ {R : CommRing} (P : Poles R) where
             least = l;
             f′ = f′;
             least′ = least-same P star (footprint-least s l′);
-            same = same-trans (same-sym (colon-colon P (monic-pole P (l′ .monic)) (s .ideal) (s .based) (l′ .member))) (colon-same R f′ star);
+            same = same-trans R (same-sym R (colon-colon P (monic-pole P (l′ .monic)) (s .ideal) (s .based) (l′ .member))) (colon-same R f′ star);
           }
             where
               star : SameIdeal R (Colon R f′ A) (Colon R f J)
-              star = same-sym (star-class P (equivalent-ideal P e (s .ideal)) (s .ideal) e l l′)
+              star = same-sym R (star-class P (equivalent-ideal P e (s .ideal)) (s .ideal) e l l′)
 
   pub reduced-self : {A : Car → Type 0} → SmallFootprint A → IsReduced P A A
   reduced-self {A} s = equivalent-reduced s (equivalent-refl P A)
 
   pub reduced-unique : {J A A′ : Car → Type 0} → IsIdeal R J → IsReduced P J A → IsReduced P J A′ → SameIdeal R A A′
-  reduced-unique {J} {A} {A′} i r r′ = same-trans (r .same) (same-trans (subst (λ t. SameIdeal R (Colon R (r .f′) (Colon R (r .f) J)) (Colon R t (Colon R (r′ .f) J))) e′ (colon-same R (r .f′) star)) (same-sym (r′ .same)))
+  reduced-unique {J} {A} {A′} i r r′ =
+      same-trans R (r .same)
+      (same-trans R (subst (λ t. SameIdeal R (Colon R (r .f′) (Colon R (r .f) J)) (Colon R t (Colon R (r′ .f) J))) e′ (colon-same R (r .f′) star)) (same-sym R (r′ .same)))
     where
       star : SameIdeal R (Colon R (r .f) J) (Colon R (r′ .f) J)
-      star = subst (λ t. SameIdeal R (Colon R (r .f) J) (Colon R t J)) (least-unique P (ideal-space P i) (r .least) (r′ .least)) (λ g. Iff·rfl)
+      star = subst (λ t. SameIdeal R (Colon R (r .f) J) (Colon R t J)) (least-unique P (ideal-space P i) (r .least) (r′ .least)) (same-refl R (Colon R (r .f) J))
 
       e′ : r .f′ ≡ r′ .f′
       e′ = least-unique P (ideal-space P (colon-ideal R (r′ .f) J)) (least-same P star (r .least′)) (r′ .least′)
@@ -128,7 +119,7 @@ module _ {R : CommRing} (P : Poles R) where
     reduced-exists lead = go (least P (ideal-space P i) base lead)
       where
         at : (f : Car) (l : Least P J f) → (f′ : Car) × Least P (Colon R f J) f′ → (f f′ : Car) × IsReduced P J (Colon R f′ (Colon R f J))
-        at f l (f′, l′) = (f, f′, record { f = f; least = l; f′ = f′; least′ = l′; same = λ g. Iff·rfl })
+        at f l (f′, l′) = (f, f′, record { f = f; least = l; f′ = f′; least′ = l′; same = same-refl R (Colon R f′ (Colon R f J)) })
 
         go : (f : Car) × Least P J f → (f f′ : Car) × IsReduced P J (Colon R f′ (Colon R f J))
         go (f, l) = at f l (footprint-exists (star-footprint i base l))
@@ -138,7 +129,7 @@ module _ {R : CommRing} (P : Poles R) where
       star = star-footprint i base (r .least)
 
       pub reduced-footprint : SmallFootprint A
-      reduced-footprint = footprint-same (same-sym (r .same)) (star-footprint (star .ideal) (star .based) (r .least′))
+      reduced-footprint = footprint-same (same-sym R (r .same)) (star-footprint (star .ideal) (star .based) (r .least′))
 
       -- f′·j is in (f : J)·J, so it is f·a. Conversely f is in (f : J), so f·a is a multiple f′·j, and j is in (f : (f : J)) = J.
       pub reduced-equivalent : Equivalent R J A

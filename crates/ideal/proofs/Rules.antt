@@ -1,13 +1,14 @@
 -- Rearrangements in a commutative ring that the theory of ideals uses.
 --   move               a + b = c gives a = c − b
 --   unscale            a·b = 1 gives (a·f)·(b·q) = f·q
+--   neg-second … neg-third-more    cancelling at a distance, rules of `ring`
 --   ring               algebra's rule set for simp, with cancelling at a greater distance
-use mathlib.Core.Path.{_≡_, refl, sym, _∙_, ap}
+use mathlib.Core.Path.{_≡_, sym, _∙_, ap}
 use Rattle.algebra.specs.Ring.{CommRing}
 use Rattle.algebra.proofs.Laws as laws
 
 module _ (R : CommRing) where
-  open CommRing R using (Car, zero, one, add as _⊕_, mul as _⊗_, neg as ⊖_, add-comm, add-assoc, add-zero, add-neg, mul-comm, mul-assoc, mul-one, mul-add)
+  open CommRing R using (Car, one, add as _⊕_, mul as _⊗_, neg as ⊖_, add-assoc, add-zero, add-neg, mul-assoc)
 
   infixl 60 _⊕_
   infixl 70 _⊗_
@@ -16,7 +17,8 @@ module _ (R : CommRing) where
   move {a} {b} {c} e = sym (add-zero a) ∙ ap (λ t. a ⊕ t) (sym (add-neg b)) ∙ sym (add-assoc a b (⊖ b)) ∙ ap (λ t. t ⊕ ⊖ b) e
 
   pub unscale : (a b f q : Car) → a ⊗ b ≡ one → (a ⊗ f) ⊗ (b ⊗ q) ≡ f ⊗ q
-  unscale a b f q e = mul-assoc a f (b ⊗ q) ∙ ap (λ t. a ⊗ t) (laws.mul-left-comm R f b q) ∙ sym (mul-assoc a b (f ⊗ q)) ∙ ap (λ t. t ⊗ (f ⊗ q)) e ∙ laws.one-mul R (f ⊗ q)
+  unscale a b f q e =
+      mul-assoc a f (b ⊗ q) ∙ ap (λ t. a ⊗ t) (laws.mul-left-comm R f b q) ∙ sym (mul-assoc a b (f ⊗ q)) ∙ ap (λ t. t ⊗ (f ⊗ q)) e ∙ laws.one-mul R (f ⊗ q)
 
   pub neg-second : (a b : Car) → ⊖ a ⊕ (b ⊕ a) ≡ b
   neg-second a b = laws.add-left-comm R (⊖ a) b a ∙ ap (λ t. b ⊕ t) (laws.neg-add R a) ∙ add-zero b

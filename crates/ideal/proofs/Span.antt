@@ -1,20 +1,24 @@
 -- Spans over k[x], where x is the monomial of pole number 3, y that of pole number 4, and k the constants.
 --   InX p                  p is a polynomial in x: zero, or c + x·q with a constant c and q in k[x]
+--   inx-sum, inx-scale, inx-x, inx-mul, inx-constant, inx-one    k[x] is closed under sums, products and constants
+--   three-pole, four-pole  3 and 4 are pole numbers
 --   inx-pole               the pole number of p is a multiple of 3
+--   x-power i              xⁱ; x-power-pole, inx-power, inx-monomial: its pole number is 3·i, and c·xⁱ is in k[x]
 --   Span bs                p₁·b₁ + … + pₙ·bₙ with the pᵢ in k[x]
---   span-space             it is a space, and closed under multiples from k[x]
---   span-each              it holds each b
---   span-in                a space that is closed under x and holds each b holds the span
---   span-same              two lists that span each other's elements have the same span
---   InXY r                 r is a polynomial in x and y
---   inxy-all               so is every element of R
+--   span-nil, span-sum, span-times, span-x, span-space    it is a space, closed under multiples from k[x]
+--   span-first, span-rest, span-each    it holds each b
+--   inx-in, span-in        a space that is closed under x and holds each b holds the span
+--   span-within, span-same the span of bs is in that of cs if each b is; two lists with the same span
+--   x-lead                 a set that is closed under x has the leads d + 3·i if it has d
+--   InXY r                 r is a polynomial in x and y; inxy-all: so is every element of R
+--   xy-times, xy-ideal     a space that is closed under x and y is an ideal
 --   span-ideal             Span bs is an ideal if it holds y·b for each b
 --   span-generated         … and then it is the ideal that bs generates
 --   span-product           the product of Span bs and Span cs is the span of the products
 use mathlib.Core.Path.{_≡_, refl, sym, _∙_, ap, subst}
-use mathlib.Core.Logic.{_⊎_, inl, inr, ⊎-elim, _↔_}
-use mathlib.Core.List.{List, [], _∷_, _++_, map}
-use Prim.Native.Nat.{ℕ, suc, _+_, _*_, _-_, _/_, _%_, _≤_, _<_}
+use mathlib.Core.Logic.{_⊎_, inl, inr}
+use mathlib.Core.List.{List, [], _∷_}
+use Prim.Native.Nat.{ℕ, suc, _+_, _*_, _-_, _/_, _%_}
 use native.Mathlib.Decide.{ℕ-discrete}
 use native.Mathlib.Omega.{arith}
 use Rattle.algebra.specs.Ring.{CommRing}
@@ -23,19 +27,18 @@ use Rattle.ideal.specs.Ideal.{IsIdeal, Generated, Product, none, more, S
 use Rattle.ideal.specs.Poles.{IsPole, Poles, HasPole}
 use Rattle.ideal.proofs.Gaps.{pole-apart, pole-intro}
 use Rattle.ideal.proofs.Degree.{below-scale, degree, mono-has, one-pole, pole-add, pole-at, pole-below, pole-cong, pole-mul, pole-nonzero, pole-number, pole-unique}
-use Rattle.ideal.proofs.Every.{Every, every-map, every-append, every-left, every-right, every-image, every-source}
+use Rattle.ideal.proofs.Every.{Every, every-map}
 use Rattle.ideal.proofs.Leads.{IsSpace, ideal-space, Lead, lowering}
 use Rattle.ideal.proofs.Product.{product-sum, product-times}
 use Rattle.ideal.proofs.Generated.{products, products-each, products-source, generated-ideal, generated-each, generated-in}
 use Rattle.ideal.proofs.Rules.{ring}
 
 module _ {R : CommRing} (P : Poles R) where
-  open CommRing R using (Car, zero, one, add as _⊕_, mul as _⊗_, neg as ⊖_)
+  open CommRing R using (Car, zero, one, add as _⊕_, mul as _⊗_)
   open Poles P using (Below, mono, below-zero, below-add, below-mono)
 
   infixl 60 _⊕_
   infixl 70 _⊗_
-  infix 80 ⊖_
   abbrev pub x : Car
   x = mono 3
 
@@ -85,11 +88,29 @@ module _ {R : CommRing} (P : Poles R) where
   inx-pole {p} {n} (horner {c} {q} b i e) ph = go (λ m. inx-pole i) (degree P q)
     where
       next : {m : ℕ} → HasPole P q m → (j : ℕ) × (m ≡ 3 * j) → (j : ℕ) × (n ≡ 3 * j)
-      next {m} pq (j, e′) = (suc j, omega (arith, pole-unique P ph (pole-cong P (laws.plus-comm R (x ⊗ q) c ∙ sym e) (pole-add P (pole-mul P (mono-has P three-pole) pq) (below-mono (omega arith) b)))))
+      next {m} pq (j, e′) =
+          (suc j, omega (arith, pole-unique P ph (pole-cong P (laws.plus-comm R (x ⊗ q) c ∙ sym e) (pole-add P (pole-mul P (mono-has P three-pole) pq) (below-mono (omega arith) b)))))
 
       go : ((m : ℕ) → HasPole P q m → (j : ℕ) × (m ≡ 3 * j)) → (q ≡ zero) ⊎ ((m : ℕ) × HasPole P q m) → (j : ℕ) × (n ≡ 3 * j)
       go ih (inl z) = (0, omega (arith, pole-below P (pole-cong P (e ∙ rw z (simp ring)) ph) b))
       go ih (inr (m, pq)) = next pq (ih m pq)
+
+  unfoldable pub x-power : ℕ → Car
+  x-power ℕ.zero = one
+  x-power (suc i) = x ⊗ x-power i
+
+  pub x-power-pole : (i : ℕ) → HasPole P (x-power i) (3 * i)
+  unfolding x-power
+  x-power-pole ℕ.zero = pole-at P (omega arith) (one-pole P)
+  x-power-pole (suc i) = pole-at P (omega arith) (pole-mul P (mono-has P three-pole) (x-power-pole i))
+
+  pub inx-power : (i : ℕ) → InX (x-power i)
+  unfolding x-power
+  inx-power ℕ.zero = inx-constant (one-pole P .upper)
+  inx-power (suc i) = inx-x (inx-power i)
+
+  pub inx-monomial : {c : Car} → Below 1 c → (i : ℕ) → InX (c ⊗ x-power i)
+  inx-monomial b i = inx-scale b (inx-power i)
 
   abbrev pub Span : List Car → Car → Type 0
   Span [] h = h ≡ zero
@@ -188,11 +209,15 @@ module _ {R : CommRing} (P : Poles R) where
       go (no a) (no b) = up 8 (y-lead 4 (y-lead 0 unit)) (omega (arith, pole-apart pn))
 
   pub inxy-all : (r : Car) → InXY r
-  inxy-all r = lowering P {I′ = λ _. Unit} inxy-space (record { nil = tt; sum = λ m n. tt; scale = λ k m. tt }) (λ g m. tt) (λ n (u, m, p). inxy-lead n (pole-number P p)) r tt
+  inxy-all r =
+      lowering P {I′ = λ _. Unit} inxy-space (record { nil = tt; sum = λ m n. tt; scale = λ k m. tt }) (λ g m. tt)
+      (λ n (u, m, p). inxy-lead n (pole-number P p)) r tt
 
-  pub xy-times : {U : Car → Type 0} → IsSpace P U → ((u : Car) → U u → U (x ⊗ u)) → ((u : Car) → U u → U (y ⊗ u)) → {r : Car} → InXY r → (u : Car) → U u → U (r ⊗ u)
+  pub xy-times : {U : Car → Type 0} → IsSpace P U → ((u : Car) → U u → U (x ⊗ u)) → ((u : Car) → U u → U (y ⊗ u)) → {r : Car} → InXY r → (u : Car)
+      → U u → U (r ⊗ u)
   xy-times {U} s fx fy (constant b) u m = s .scale b m
-  xy-times {U} s fx fy (plus {p} {q} a b e) u m = subst U (sym (ap (λ t. t ⊗ u) e ∙ laws.add-mul R p q u)) (s .sum (xy-times s fx fy a u m) (xy-times s fx fy b u m))
+  xy-times {U} s fx fy (plus {p} {q} a b e) u m =
+      subst U (sym (ap (λ t. t ⊗ u) e ∙ laws.add-mul R p q u)) (s .sum (xy-times s fx fy a u m) (xy-times s fx fy b u m))
   xy-times {U} s fx fy (times-x {p} a e) u m = subst U (sym (ap (λ t. t ⊗ u) e ∙ R .mul-assoc x p u)) (fx (p ⊗ u) (xy-times s fx fy a u m))
   xy-times {U} s fx fy (times-y {p} a e) u m = subst U (sym (ap (λ t. t ⊗ u) e ∙ R .mul-assoc y p u)) (fy (p ⊗ u) (xy-times s fx fy a u m))
 
@@ -209,7 +234,8 @@ module _ {R : CommRing} (P : Poles R) where
   }
 
   span-taken : (k : Car) (bs cs : List Car) → Every (λ b. Span cs (k ⊗ b)) bs → (h : Car) → Span bs h → Span cs (k ⊗ h)
-  span-taken k bs cs ms = span-in (taken-space {U = Span cs} k (span-space cs)) (λ u m. subst (Span cs) (laws.mul-left-comm R x k u) (span-x cs (k ⊗ u) m)) bs ms
+  span-taken k bs cs ms =
+      span-in (taken-space {U = Span cs} k (span-space cs)) (λ u m. subst (Span cs) (laws.mul-left-comm R x k u) (span-x cs (k ⊗ u) m)) bs ms
 
   pub span-ideal : (bs : List Car) → Every (λ b. Span bs (y ⊗ b)) bs → IsIdeal R (Span bs)
   span-ideal bs ms = xy-ideal (span-space bs) (span-x bs) (span-taken y bs bs ms)
@@ -225,7 +251,8 @@ module _ {R : CommRing} (P : Poles R) where
 
   -- b·a for b in Span cs: first for a of the list bs, then for a in Span bs.
   span-times-span : (bs cs : List Car) (a b : Car) → Span bs a → Span cs b → Span (products R bs cs) (a ⊗ b)
-  span-times-span bs cs a b ma mb = subst (Span (products R bs cs)) (R .mul-comm b a) (span-taken b bs (products R bs cs) (every-map row bs (span-products bs cs)) a ma)
+  span-times-span bs cs a b ma mb =
+      subst (Span (products R bs cs)) (R .mul-comm b a) (span-taken b bs (products R bs cs) (every-map row bs (span-products bs cs)) a ma)
     where
       row : (g : Car) → Every (λ c. Span (products R bs cs) (g ⊗ c)) cs → Span (products R bs cs) (b ⊗ g)
       row g ms = subst (Span (products R bs cs)) (R .mul-comm g b) (span-taken g cs (products R bs cs) ms b mb)
