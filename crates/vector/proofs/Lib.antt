@@ -1,2 +1,6 @@
 -- Laws of the loops on vectors.
 pub mod Loop
+pub mod Monomial
+pub mod Element
+pub mod Lead
+pub mod Portion

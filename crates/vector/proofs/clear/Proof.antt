@@ -1,3 +1,4 @@
+use Rattle.vector.proofs.Lead.{cleared}
 use borrow.Author.Needs.{needs}
 use Rattle.vector.proofs.clear.Statement.{statement}
 use Rattle.vector.proofs.clear.Tie as tie
@@ -16,7 +17,7 @@ element-copy-out-neg c = search needs
 
 -- src/lib.rt:28:9
 neg-requires : tie.Need-neg-requires
-neg-requires c κs = ?
+neg-requires c κs = record { below = c .before .pre .v-vec .below _ }
 
 -- src/lib.rt:29:22
 sub-axpy : tie.Need-sub-axpy
@@ -36,7 +37,7 @@ element-write-v c = search needs
 
 -- src/lib.rt:24:1
 returns : tie.Need-returns
-returns c = ?
+returns c = cleared (c .before .before .before .before .pre) (c .before .before .neg .ensures) (c .axpy .ensures)
 
 pub clear-spec : {M : Type 1} → statement M
 clear-spec =

@@ -1,3 +1,4 @@
+use Rattle.vector.proofs.Lead.{already-monic, made-monic}
 use borrow.Author.Needs.{needs}
 use Rattle.vector.proofs.make_monic.Statement.{statement}
 use Rattle.vector.proofs.make_monic.Tie as tie
@@ -16,7 +17,7 @@ element-copy-out-lead c = search needs
 
 -- src/lib.rt:40:13
 inverse-requires : tie.Need-inverse-requires
-inverse-requires c κs = ?
+inverse-requires c κs = record { prime = c .before .before .pre .prime; below = c .before .before .pre .vec .below _ }
 
 -- src/lib.rt:41:9
 scale-requires : tie.Need-scale-requires
@@ -32,11 +33,11 @@ element-write-v c = search needs
 
 -- src/lib.rt:34:1
 returns : tie.Need-returns
-returns c = ?
+returns c = made-monic (c .before .before .before .before .before .pre) (c .before .before .inverse .ensures) (c .scale .ensures)
 
 -- src/lib.rt:34:1
 returns-2 : tie.Need-returns-2
-returns-2 c = ?
+returns-2 c = already-monic (c .before .before .pre) (c .if1 .left)
 
 pub make-monic-spec : {M : Type 1} → statement M
 make-monic-spec =

@@ -1,0 +1,105 @@
+-- The elements of vectors.
+--   element-coefficient            the coefficients of v's element are v's residues
+--   element-at                     the same by the powers of x and y
+--   element-same                   vectors with the same residues have the same element
+--   element-zero                   the zero vector's element is zero
+--   element-scale                  residues that are c times those of v
+--   added-value                    what axpy does to the element
+use mathlib.Core.Path.{_≡_, refl, sym, _∙_, ap, ap₂, subst}
+use mathlib.Core.List.{List, [], _∷_}
+use Prim.Native.Nat.{ℕ, zero, suc, _+_, _*_, _-_, _/_, _%_, _≤_, _<_}
+use native.Mathlib.Omega.{arith}
+use native.Mathlib.Decide.{decLt}
+use lib.ListN.{length}
+use Rattle.algebra.specs.Ring.{CommRing}
+use Rattle.algebra.proofs.Laws as L
+use Rattle.ideal.specs.Poles.{IsGap, IsPole}
+use Rattle.field.specs.Residue.{Z, el}
+use Rattle.field.specs.Element.{el-zero}
+use Rattle.curve.specs.Curve.{Curve, Coordinate, constant}
+use Rattle.curve.specs.Curve as K
+use Rattle.curve.specs.Pole.{pole, Located, place, gap, locate, pole-is-pole}
+use Rattle.curve.specs.Monomial.{coefficient, vector}
+use Rattle.curve.specs.Term.{coefficient-pole, coefficient-gap, coefficient-ext, coefficient-zero, coefficient-add, coefficient-constant-mul, coefficient-vector}
+use Rattle.vector.specs.Vector.{Vec, Top, at, res, element, past-end, x-to, scalar, width}
+use Rattle.vector.specs.Contract.{Added}
+use Rattle.vector.proofs.Loop.{gap-zero}
+use Rattle.vector.proofs.Monomial.{shift-high, shift-low, vector-same}
+
+module _ (p : ℕ) (C : Curve (Z p)) where
+  open CommRing (Z p) using (Car, zero as 𝟘, one as 𝟙, add as _+ₖ_, mul as _·ₖ_, neg as -ₖ_)
+  open CommRing (Coordinate C) using (Car as El, zero as 𝟎, one as 𝟏, add as _⊕_, mul as _⊗_, neg as ⊖_)
+
+  infixl 60 _⊕_ _+ₖ_
+  infixl 70 _⊗_ _·ₖ_
+  infix 80 ⊖_ -ₖ_
+  pub element-at : (v : List ℕ) (i j : ℕ) → j ≤ 2 → K.at C i j (element p C v) ≡ res p v (pole i j)
+  unfolding element
+  element-at v i j l =
+      sym (coefficient-pole C i j l _)
+      ∙ coefficient-vector C (res p v) (length v) (past-end p v) (pole i j) (pole-is-pole i j l)
+
+  pub element-coefficient : {v : List ℕ} → Vec p v → (n : ℕ) → coefficient C n (element p C v) ≡ res p v n
+  element-coefficient {v} h n = go (locate n)
+    where
+      go : Located n → coefficient C n (element p C v) ≡ res p v n
+      go (place i j l e) = rw e (coefficient-pole C i j l (element p C v) ∙ element-at v i j l)
+      go (gap q) = coefficient-gap C n q _ ∙ sym (ap (el p) (gap-zero h n q) ∙ el-zero p)
+
+  pub element-same : (v w : List ℕ) → ((n : ℕ) → IsPole n → res p v n ≡ res p w n) → element p C v ≡ element p C w
+  unfolding element
+  element-same v w e =
+      vector-same C (res p v) (res p w) (length v) (length w) (past-end p v) (past-end p w) e
+
+  pub element-zero : (v : List ℕ) → Top v 0 → element p C v ≡ 𝟎
+  unfolding element
+  element-zero v t = coefficient-ext C (λ n. go n (locate n) ∙ sym (coefficient-zero C n))
+    where
+      go : (n : ℕ) → Located n → coefficient C n (vector C (res p v) (length v) (past-end p v)) ≡ 𝟘
+      go n (place i j l e) =
+          ap (λ m. coefficient C m (vector C (res p v) (length v) (past-end p v))) e
+          ∙ coefficient-vector C (res p v) (length v) (past-end p v) (pole i j) (pole-is-pole i j l)
+          ∙ ap (el p) (t (pole i j) (omega arith))
+          ∙ el-zero p
+      go n (gap q) = coefficient-gap C n q _
+
+  pub element-scale : {v w : List ℕ} (c : Car) → Vec p v → Vec p w → ((n : ℕ) → res p w n ≡ c ·ₖ res p v n) → element p C w ≡ constant C c ⊗ element p C v
+  element-scale {v} {w} c h h′ e =
+      coefficient-ext C (λ n. element-coefficient h′ n ∙ e n ∙ sym (coefficient-constant-mul C n c (element p C v) ∙ ap (λ u. c ·ₖ u) (element-coefficient h n)))
+
+  pub added-value : {c s e : ℕ} {r b r′ : List ℕ} → Vec p r → Vec p b → s % 3 ≡ 0 → Added p r c b s e r′ → Top b e → element p C r′ ≡ element p C r ⊕ (scalar p C c ⊗ x-to p C (s / 3)) ⊗ element p C b
+  added-value {c} {s} {e} {r} {b} {r′} hr hb z a t =
+      coefficient-ext C (λ n. element-coefficient (a .vec) n ∙ same n (decLt n s) ∙ sym (right n))
+    where
+      g : El
+      g = x-to p C (s / 3) ⊗ element p C b
+
+      right : (n : ℕ) → coefficient C n (element p C r ⊕ (scalar p C c ⊗ x-to p C (s / 3)) ⊗ element p C b) ≡ res p r n +ₖ el p c ·ₖ coefficient C n g
+      right n =
+          coefficient-add C n _ _
+          ∙ ap₂ _+ₖ_ (element-coefficient hr n) (ap (coefficient C n) (Coordinate C .mul-assoc _ _ _) ∙ coefficient-constant-mul C n (el p c) g)
+
+      moved : (n : ℕ) → s ≤ n → coefficient C n g ≡ res p b (n - s)
+      moved n l =
+          ap (λ m. coefficient C m g) {x = n} {y = 3 * (s / 3) + (n - s)} (omega arith)
+          ∙ shift-high C (s / 3) (n - s) (element p C b)
+          ∙ element-coefficient hb (n - s)
+
+      inside : (n : ℕ) → s ≤ n → Dec (n - s < e) → res p r′ n ≡ res p r n +ₖ el p c ·ₖ res p b (n - s)
+      inside n l (yes d) =
+          let q : n - s + s ≡ n = omega arith in
+          ap (res p r′) (sym q)
+          ∙ a .new (n - s) d
+          ∙ Z p .add-comm _ _
+          ∙ ap (λ m. res p r m +ₖ el p c ·ₖ res p b (n - s)) q
+      inside n l (no d) =
+          ap (el p) (a .high n (omega arith))
+          ∙ sym (ap (λ u. res p r n +ₖ el p c ·ₖ u) (ap (el p) (t (n - s) (omega arith)) ∙ el-zero p) ∙ ap (λ u. res p r n +ₖ u) (L.mul-zero (Z p) _) ∙ Z p .add-zero _)
+
+      same : (n : ℕ) → Dec (n < s) → res p r′ n ≡ res p r n +ₖ el p c ·ₖ coefficient C n g
+      same n (yes l) =
+          ap (el p) (a .low n l)
+          ∙ sym (ap (λ u. res p r n +ₖ el p c ·ₖ u) (shift-low C (s / 3) n (element p C b) (omega arith)) ∙ ap (λ u. res p r n +ₖ u) (L.mul-zero (Z p) _) ∙ Z p .add-zero _)
+      same n (no l) =
+          inside n (omega arith) (decLt (n - s) e)
+          ∙ ap (λ u. res p r n +ₖ el p c ·ₖ u) (sym (moved n (omega arith)))
