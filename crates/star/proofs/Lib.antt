@@ -1,0 +1,4 @@
+-- The functional of f and its kernel, the equations of the star's numbers, the degrees of an ideal's triple.
+pub mod Total
+pub mod Apply
+pub mod Kernel
