@@ -2,3 +2,5 @@
 pub mod Total
 pub mod Apply
 pub mod Kernel
+pub mod Build
+pub mod Equations
