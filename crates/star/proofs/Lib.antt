@@ -4,3 +4,5 @@ pub mod Apply
 pub mod Kernel
 pub mod Build
 pub mod Equations
+pub mod Member
+pub mod Degrees
