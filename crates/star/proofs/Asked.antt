@@ -2,14 +2,14 @@
 --   least-of               the class of the least degree, by three comparisons
 --   degrees-of             the leads of J by the degrees
 --   in-span, degree-pole, member-monic     each member is in J, monic of its degree
---   least-small            the least degree is at most 12
+--   least-small, first-small, second-small     bounds of the three degrees
 --   steps-of               the five pairs of d1 − d and d2 − d
 --   near-1, near-2         d1 is d + 1 or d + 4; d2 is d + 2 or d + 5 if it is not d + 8
 --   least-low              … and then d is at least 3
 --   y-asked                what star asks of y_multiples
 use mathlib.Core.Path.{_≡_, refl, sym, _∙_, ap, ap₂, subst}
 use mathlib.Core.List.{List}
-use mathlib.Core.Logic.{_⊎_, inl, inr}
+use mathlib.Core.Logic.{_⊎_, inl, inr, ⊎-elim}
 use Prim.Native.Nat.{ℕ, zero, suc, _+_, _%_, _<_, _≤_}
 use native.Mathlib.Omega.{arith}
 use native.Mathlib.Decide.{decLe}
@@ -113,6 +113,9 @@ module _ {p k : ℕ} {f : List ℕ} {t : List (List ℕ)} {d : List ℕ} (A : St
         go (steps-11 a b) = inr a
         go (steps-0 a b) = inr a
 
+    pub first-small : at d ((j + 1) % 3) ≤ 16
+    first-small = ⊎-elim (λ e. omega (arith, least-small)) (λ e. omega (arith, least-small)) near-1
+
     module _ (some : ¬ (at d ((j + 2) % 3) ≡ at d j + 8)) where
       pub near-2 : (at d ((j + 2) % 3) ≡ at d j + 2) ⊎ (at d ((j + 2) % 3) ≡ at d j + largest-gap)
       near-2 = go steps-of
@@ -123,6 +126,9 @@ module _ {p k : ℕ} {f : List ℕ} {t : List (List ℕ)} {d : List ℕ} (A : St
           go (steps-22 a b) = inr b
           go (steps-11 a b) = inr b
           go (steps-0 a b) = absurd (some b)
+
+      pub second-small : at d ((j + 2) % 3) ≤ 17
+      second-small = ⊎-elim (λ e. omega (arith, least-small)) (λ e. omega (arith, least-small)) near-2
 
       pub least-low : 3 ≤ at d j
       least-low = go near-2 (decLe 3 (at d j))

@@ -1,6 +1,7 @@
 -- The divisor that star returns is the star of the triple's span.
 --   given-of, posed-of     what star asks of functional and of star_11 … star_31
 --   starred-0 … starred-31 a divisor with the numbers of its kind's candidates is the star, where the degrees are those of the kind
+--   starred-by             … whichever the kind
 use mathlib.Core.Path.{_≡_, refl, sym, _∙_, ap, ap₂, subst}
 use mathlib.Core.List.{List, [], _∷_}
 use mathlib.Core.Logic.{_⊎_, inl, inr, ⊎-elim}
@@ -30,7 +31,7 @@ use Rattle.triple.specs.Triple.{Spanned}
 use Rattle.basis.specs.Divisor.{numbers, residues, Shaped}
 use Rattle.basis.specs.declared.Divisor.{Divisor}
 use Rattle.star.specs.Functional.{apply, candidate}
-use Rattle.star.specs.Contract.{StarAsked, Starred, LeastOf, Given, FunctionalOf, Posed, Solved, divisor-11, divisor-21, divisor-22, divisor-31, Made11, Made21, Made22, Made31}
+use Rattle.star.specs.Contract.{StarAsked, Starred, LeastOf, Given, FunctionalOf, Posed, Solved, divisor-11, divisor-21, divisor-22, divisor-31, Made11, Made21, Made22, Made31, ByKind, is-31, is-21, is-22, is-11}
 use Rattle.star.specs.declared.Terms.{Terms}
 use Rattle.star.proofs.Equations.{no-y}
 use Rattle.star.proofs.Member.{all-members}
@@ -203,3 +204,9 @@ module _ {p k : ℕ} {f : List ℕ} {t : List (List ℕ)} {d : List ℕ} (A : St
         subst (Starred p (S A) t) (sym (m .is))
         (starred k31 (divisor-31 (m .f) (m .g) (m .h)) (record { kind = refl; below = below-each (numbers (divisor-31 (m .f) (m .g) (m .h))) (m .f-solved .one-term .below, (m .f-solved .x-term .below, (m .f-solved .y-term .below, (m .g-solved .one-term .below, (m .g-solved .x-term .below, (m .g-solved .y-term .below, (m .h-solved .one-term .below, (m .h-solved .x-term .below, (m .h-solved .y-term .below, tt))))))))) positive }) (meets-one, (meets-x e′, (meets-y e, tt)))
         (and-all (mono-xx C) (pole-large (omega arith)) (omega arith) (m .f-solved), (and-all (mono-xy C) (pole-large (omega arith)) (omega arith) (m .g-solved), (and-all (mono-yy C) (pole-large (omega arith)) (omega arith) (m .h-solved), tt))))
+
+    pub starred-by : {r : Divisor} → ByKind p k lam us ws (at d j) (at d ((j + 1) % 3)) (at d ((j + 2) % 3)) r → Starred p (S A) t r
+    starred-by (is-31 a b m) = starred-31 a b m
+    starred-by (is-21 a b m) = starred-21 a b m
+    starred-by (is-22 a b m) = starred-22 a b m
+    starred-by (is-11 a b m) = starred-11 a b m

@@ -12,6 +12,8 @@
 --   SolveAsked, Solved           solve: … all three
 --   divisor-11 … divisor-31      the divisors of the kinds, their numbers taken from candidates
 --   Made11 … Made31              star_11 … star_31: the divisor has the numbers of its kind's candidates
+--   ByKind                       by_kind: … of the kind that the degrees tell
+--   FromAsked                    star_from: the least degree is at hand, and the star is not the zero class
 use mathlib.Core.Path.{_≡_}
 use mathlib.Core.List.{List}
 use mathlib.Core.Logic.{_⊎_}
@@ -239,3 +241,15 @@ module _ (p k : ℕ) (lam : List ℕ) (us ws : List (List ℕ)) (d d1 d2 : ℕ) 
     pub g-solved : Solved p k lam us ws d d1 d2 7 g
     pub h-solved : Solved p k lam us ws d d1 d2 8 h
     pub is : r ≡ divisor-31 f g h
+
+  pub data ByKind (r : Divisor) : Type 0 where
+    is-31 : d1 ≡ d + 1 → d2 ≡ d + 2 → Made31 r → ByKind r
+    is-21 : ¬ (d1 ≡ d + 1) → d2 ≡ d + 2 → Made21 r → ByKind r
+    is-22 : d1 ≡ d + 1 → ¬ (d2 ≡ d + 2) → Made22 r → ByKind r
+    is-11 : ¬ (d1 ≡ d + 1) → ¬ (d2 ≡ d + 2) → Made11 r → ByKind r
+
+-- the least degree is that of the class j, and the star is not the zero class
+pub record FromAsked (p k : ℕ) (f : List ℕ) (t : List (List ℕ)) (d : List ℕ) (j : ℕ) : Type 0 where
+  pub asked : StarAsked p k f t d
+  pub least : LeastOf d j
+  pub some : ¬ (at d ((j + 2) % 3) ≡ at d j + 8)
