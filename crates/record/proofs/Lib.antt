@@ -6,3 +6,4 @@ pub mod Written
 pub mod Lists
 pub mod Unique
 pub mod Suffices
+pub mod Answer
