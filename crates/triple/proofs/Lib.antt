@@ -1,0 +1,9 @@
+-- Laws of triples of vectors over k[x].
+pub mod Element
+pub mod Members
+pub mod Leads
+pub mod Turns
+pub mod Insertion
+pub mod Reduction
+pub mod Products
+pub mod Filling
