@@ -1,3 +1,9 @@
 -- Records as ideals: members, closure under y, bases, uniqueness and existence of records, recognition of stars.
 pub mod Monomials
 pub mod Terms
+pub mod Table
+pub mod Members
+pub mod Divide
+pub mod Basis
+pub mod Star
+pub mod Unique

@@ -28,19 +28,19 @@ use Rattle.curve.specs.Product.{coefficient-mono}
 use Rattle.divisor.specs.Kind.{MadeOf}
 use Rattle.divisor.proofs.Monomials.{coefficient-mono-other}
 
-abbrev both : Bool → Bool → Bool
+abbrev pub both : Bool → Bool → Bool
 both true b = b
 both false b = false
 
-both-left : (a b : Bool) → T (both a b) → T a
+pub both-left : (a b : Bool) → T (both a b) → T a
 both-left true b t = tt
 both-left false b t = t
 
-both-right : (a b : Bool) → T (both a b) → T b
+pub both-right : (a b : Bool) → T (both a b) → T b
 both-right true b t = t
 both-right false b t = absurd t
 
-abbrev unlike : Bool → Bool
+abbrev pub unlike : Bool → Bool
 unlike true = false
 unlike false = true
 

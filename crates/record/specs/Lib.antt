@@ -3,3 +3,4 @@ pub mod Cause
 pub mod Curve
 pub mod Divisor
 pub mod Listed
+pub mod Value

@@ -4,3 +4,6 @@ pub mod Monomial
 pub mod Element
 pub mod Lead
 pub mod Portion
+pub mod Product
+pub mod ByY
+pub mod Powers

@@ -188,10 +188,10 @@ paired-more {p} {r} {r′} a b s from n h i j =
     record {
       below = j .below;
       is =
-        j .is
-        ∙ ap (Z p .add (Z p .mul (res p a n) (res p b (n - s)))) (i .is)
-        ∙ ap (λ m. Z p .add (Z p .mul (res p a m) (res p b (m - s))) (pairing p a b s from n)) {x = n} {y = from + (n - from)} (omega arith)
-        ∙ ap (total (Z p) (λ k. Z p .mul (res p a (from + k)) (res p b (from + k - s)))) {x = suc (n - from)} {y = n + 1 - from} (omega arith);
+          j .is
+          ∙ ap (Z p .add (Z p .mul (res p a n) (res p b (n - s)))) (i .is)
+          ∙ ap (λ m. Z p .add (Z p .mul (res p a m) (res p b (m - s))) (pairing p a b s from n)) {x = n} {y = from + (n - from)} (omega arith)
+          ∙ ap (total (Z p) (λ k. Z p .mul (res p a (from + k)) (res p b (from + k - s)))) {x = suc (n - from)} {y = n + 1 - from} (omega arith);
     }
 
 pub paired-end : {p r : ℕ} (a b : List ℕ) (s from n to : ℕ) → n - from ≡ to - from → Is p r (pairing p a b s from n) → Is p r (pairing p a b s from to)

@@ -1,6 +1,6 @@
 -- The element of a vector with the places of one kind only.
 --   portion K d        the element with v's coefficients at the places n with K n, and 0 elsewhere; d decides K
---   portion-at         its coefficients
+--   portion-in, portion-out        its coefficients, at the places of the kind and at the others
 --   portion-all        with all places where v is not 0 it is v's element
 --   portion-none       with none it is zero
 --   portion-same       it depends on the pole numbers n with K n only
@@ -22,16 +22,16 @@ use Rattle.vector.specs.Vector.{at, res, element, past-end, x-to, y-to, 
 use Rattle.vector.proofs.Monomial.{vector-same, vector-step}
 
 -- u if A holds and else v
-pub choose : {A X : Type 0} → Dec A → X → X → X
+choose : {A X : Type 0} → Dec A → X → X → X
 choose (yes a) u v = u
 choose (no a) u v = v
 
-pub choose-yes : {A X : Type 0} (d : Dec A) (u v : X) → A → choose d u v ≡ u
+choose-yes : {A X : Type 0} (d : Dec A) (u v : X) → A → choose d u v ≡ u
 unfolding choose
 choose-yes (yes a) u v h = refl
 choose-yes (no a) u v h = absurd (a h)
 
-pub choose-no : {A X : Type 0} (d : Dec A) (u v : X) → ¬ A → choose d u v ≡ v
+choose-no : {A X : Type 0} (d : Dec A) (u v : X) → ¬ A → choose d u v ≡ v
 unfolding choose
 choose-no (yes a) u v h = absurd (h a)
 choose-no (no a) u v h = refl
@@ -58,21 +58,29 @@ module _ (p : ℕ) (C : Curve (Z p)) (v : List ℕ) where
   infixl 60 _⊕_
   infixl 70 _⊗_
   module _ (S : ℕ → Type 0) (d : (n : ℕ) → Dec (S n)) where
-    pub kept : ℕ → Z p .Car
+    kept : ℕ → Z p .Car
     kept n = choose (d n) (res p v n) (Z p .zero)
 
-    pub kept-past : (n : ℕ) → length v ≤ n → kept n ≡ Z p .zero
+    kept-past : (n : ℕ) → length v ≤ n → kept n ≡ Z p .zero
     unfolding kept
     kept-past n h = choose-same (d n) _ _ (past-end p v n h)
 
     pub portion : El
     portion = vector C kept (length v) kept-past
 
-    pub portion-at : (i j : ℕ) → j ≤ 2 → K.at C i j portion ≡ kept (pole i j)
+    portion-at : (i j : ℕ) → j ≤ 2 → K.at C i j portion ≡ kept (pole i j)
     unfolding portion
     portion-at i j l =
         sym (coefficient-pole C i j l _)
         ∙ coefficient-vector C kept (length v) kept-past (pole i j) (pole-is-pole i j l)
+
+    pub portion-in : (i j : ℕ) → j ≤ 2 → S (pole i j) → K.at C i j portion ≡ res p v (pole i j)
+    unfolding kept
+    portion-in i j l h = portion-at i j l ∙ choose-yes (d (pole i j)) _ _ h
+
+    pub portion-out : (i j : ℕ) → j ≤ 2 → ¬ S (pole i j) → K.at C i j portion ≡ Z p .zero
+    unfolding kept
+    portion-out i j l h = portion-at i j l ∙ choose-no (d (pole i j)) _ _ h
 
     pub portion-all : ((n : ℕ) → ¬ S n → at v n ≡ 0) → portion ≡ element p C v
     unfolding portion kept element

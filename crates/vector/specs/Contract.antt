@@ -103,6 +103,7 @@ pub record TimesAsked (p : ℕ) (b : List ℕ) (e : ℕ) (ys : List (List ℕ)) 
   pub b-vec : Vec p b
   pub b-top : Top b e
   pub rows : Rows p ys top
+  pub inside : e ≤ width
   pub room : e + top ≤ 27
 
 pub record Times (p : ℕ) (b : List ℕ) (e : ℕ) (ys : List (List ℕ)) (top : ℕ) (r : List ℕ) : Type 0 where

@@ -1,16 +1,13 @@
+-- `vector::dot` meets its contract. The loop's invariant: r is the sum up to n; its measure: to − n.
 use mathlib.Core.Path.{_≡_}
-use Rattle.field.specs.Contract.{Below₃}
-use Rattle.vector.proofs.Loop.{paired-start, paired-more, paired-end}
-use Rattle.field.specs.Contract.{Is}
-use Rattle.vector.specs.Contract.{pairing}
-use borrow.Author.Needs.{needs}
-use Prim.Native.Nat.{_≤_, _-_, _+_}
+use Prim.Native.Nat.{_≤_, _-_}
 use native.Mathlib.Omega.{arith}
+use borrow.Author.Needs.{needs}
+use Rattle.field.specs.Contract.{Is}
+use Rattle.vector.proofs.Loop.{paired-start, paired-more, paired-end}
+use Rattle.vector.specs.Contract.{pairing}
 use Rattle.vector.proofs.dot.Statement.{statement}
 use Rattle.vector.proofs.dot.Tie as tie
-use Rattle.vector.proofs.dot.Reads as reads
-use Rattle.vector.proofs.dot.Lts as lts
-use Rattle.field.proofs.mul_add.Reads as mul-add-reads
 
 abbrev Inv-loop : tie.InvT-loop
 Inv-loop p a b s from to r₀ n₀ r n = Is p r (pairing p a b s from n) × (from ≤ n) × (n - from ≤ to - from)
@@ -18,47 +15,36 @@ Inv-loop p a b s from to r₀ n₀ r n = Is p r (pairing p a b s from n) × (fro
 abbrev μ-loop : tie.MeasureT-loop
 μ-loop p a b s from to r₀ n₀ r n = to - n
 
--- src/lib.rt:95:5
 loop-holds : tie.Need-loop-holds Inv-loop μ-loop
 loop-holds c = (paired-start _ (c .args .a .now) (c .args .b .now) (c .args .s) (c .args .from) (omega (arith, c .pre .a-vec .below 0)), omega arith, omega arith)
 
--- src/lib.rt:96:31
 mul-mul-add : tie.Need-mul-mul-add Inv-loop μ-loop
 mul-mul-add c = search needs
 
--- src/lib.rt:96:31
 element-copy-out-mul-add : tie.Need-element-copy-out-mul-add Inv-loop μ-loop
 element-copy-out-mul-add c = search needs
 
--- src/lib.rt:96:39
 sub-mul-add : tie.Need-sub-mul-add Inv-loop μ-loop
 sub-mul-add c = search needs
 
--- src/lib.rt:96:37
 mul-mul-add-2 : tie.Need-mul-mul-add-2 Inv-loop μ-loop
 mul-mul-add-2 c = search needs
 
--- src/lib.rt:96:37
 element-copy-out-mul-add-2 : tie.Need-element-copy-out-mul-add-2 Inv-loop μ-loop
 element-copy-out-mul-add-2 c = search needs
 
--- src/lib.rt:96:9
 mul-add-requires : tie.Need-mul-add-requires Inv-loop μ-loop
 mul-add-requires c κs = record { below-1 = c .before .before .before .before .pre .a-vec .below _; below-2 = c .before .before .before .before .pre .b-vec .below _; below-3 = c .before .before .before .loop .inv .0 .below }
 
--- src/lib.rt:97:9
 add-n : tie.Need-add-n Inv-loop μ-loop
 add-n c = search needs
 
--- src/lib.rt:95:5
 loop-less : tie.Need-loop-less Inv-loop μ-loop
 loop-less c = search needs
 
--- src/lib.rt:95:5
 loop-again : tie.Need-loop-again Inv-loop μ-loop
 loop-again c = let a = c .before .before .before .before .before .args in (paired-more (a .a .now) (a .b .now) (a .s) (a .from) _ (c .before .before .before .before .loop .inv .1) (c .before .before .before .before .loop .inv .0) (c .mul-add .ensures), omega arith, omega arith)
 
--- src/lib.rt:89:1
 returns : tie.Need-returns Inv-loop μ-loop
 returns c = let a = c .before .before .args in let e : c .before .loop .n - a .from ≡ a .to - a .from = omega arith in paired-end (a .a .now) (a .b .now) (a .s) (a .from) _ _ e (c .before .loop .inv .0)
 

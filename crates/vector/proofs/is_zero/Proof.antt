@@ -1,13 +1,12 @@
+-- `vector::is_zero` meets its contract. The loop's invariant: the numbers below i are 0; its measure: 26 − i.
+use mathlib.Core.Path.{_≡_}
+use Prim.Native.Nat.{ℕ, _≤_, _<_, _-_}
+use native.Mathlib.Omega.{arith}
+use borrow.Author.Needs.{needs}
 use Rattle.vector.proofs.Loop.{seen-more, zero-test-true, zero-test-false}
 use Rattle.vector.specs.Vector.{at}
-use borrow.Author.Needs.{needs}
-use Prim.Native.Nat.{ℕ, _≤_, _<_, _-_, _+_}
-use mathlib.Core.Path.{_≡_}
-use native.Mathlib.Omega.{arith}
 use Rattle.vector.proofs.is_zero.Statement.{statement}
 use Rattle.vector.proofs.is_zero.Tie as tie
-use Rattle.vector.proofs.is_zero.Reads as reads
-use Rattle.vector.proofs.is_zero.Lts as lts
 
 abbrev Inv-loop : tie.InvT-loop
 Inv-loop v i₀ i = (i ≤ 26) × ((k : ℕ) → k < i → at v k ≡ 0)
@@ -15,35 +14,27 @@ Inv-loop v i₀ i = (i ≤ 26) × ((k : ℕ) → k < i → at v k ≡ 0)
 abbrev μ-loop : tie.MeasureT-loop
 μ-loop v i₀ i = 26 - i
 
--- src/lib.rt:107:5
 loop-holds : tie.Need-loop-holds Inv-loop μ-loop
 loop-holds c = search needs
 
--- src/lib.rt:108:12
 mul-if1 : tie.Need-mul-if1 Inv-loop μ-loop
 mul-if1 c = search needs
 
--- src/lib.rt:108:12
 element-copy-out-if1 : tie.Need-element-copy-out-if1 Inv-loop μ-loop
 element-copy-out-if1 c = search needs
 
--- src/lib.rt:109:13
 returns : tie.Need-returns Inv-loop μ-loop
 returns c = zero-test-false _ _ (omega arith) (c .if1 .taken)
 
--- src/lib.rt:111:9
 add-i : tie.Need-add-i Inv-loop μ-loop
 add-i c = search needs
 
--- src/lib.rt:107:5
 loop-less : tie.Need-loop-less Inv-loop μ-loop
 loop-less c = search needs
 
--- src/lib.rt:107:5
 loop-again : tie.Need-loop-again Inv-loop μ-loop
 loop-again c = (omega arith, seen-more (c .before .before .before .before .args .v .now) _ (c .before .before .before .loop .inv .1) (c .if1 .left))
 
--- src/lib.rt:103:1
 returns-2 : tie.Need-returns-2 Inv-loop μ-loop
 returns-2 c = zero-test-true _ _ (omega arith) (c .before .loop .inv .1)
 

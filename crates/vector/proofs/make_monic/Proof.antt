@@ -1,41 +1,30 @@
-use Rattle.vector.proofs.Lead.{already-monic, made-monic}
+-- `vector::make_monic` meets its contract, by the two laws of proofs/Lead.
 use borrow.Author.Needs.{needs}
+use Rattle.vector.proofs.Lead.{already-monic, made-monic}
 use Rattle.vector.proofs.make_monic.Statement.{statement}
 use Rattle.vector.proofs.make_monic.Tie as tie
-use Rattle.vector.proofs.make_monic.Reads as reads
-use Rattle.vector.proofs.make_monic.Lts as lts
-use Rattle.field.proofs.inverse.Reads as inverse-reads
-use Rattle.vector.proofs.scale.Reads as scale-reads
 
--- src/lib.rt:38:16
 mul-lead : tie.Need-mul-lead
 mul-lead c = search needs
 
--- src/lib.rt:38:16
 element-copy-out-lead : tie.Need-element-copy-out-lead
 element-copy-out-lead c = search needs
 
--- src/lib.rt:40:13
 inverse-requires : tie.Need-inverse-requires
 inverse-requires c κs = record { prime = c .before .before .pre .prime; below = c .before .before .pre .vec .below _ }
 
--- src/lib.rt:41:9
 scale-requires : tie.Need-scale-requires
 scale-requires c κs = search needs
 
--- src/lib.rt:42:9
 mul-v : tie.Need-mul-v
 mul-v c = search needs
 
--- src/lib.rt:42:9
 element-write-v : tie.Need-element-write-v
 element-write-v c = search needs
 
--- src/lib.rt:34:1
 returns : tie.Need-returns
 returns c = made-monic (c .before .before .before .before .before .pre) (c .before .before .inverse .ensures) (c .scale .ensures)
 
--- src/lib.rt:34:1
 returns-2 : tie.Need-returns-2
 returns-2 c = already-monic (c .before .before .pre) (c .if1 .left)
 

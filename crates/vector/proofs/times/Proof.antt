@@ -1,62 +1,52 @@
+-- `vector::times` meets its contract. The loop's invariant is TimesPart of proofs/Product, its measure e − n.
+use mathlib.Core.Logic.{⊎-elim}
+use Prim.Native.Nat.{_≤_, _-_}
+use native.Mathlib.Omega.{arith}
+use Rattle.vector.proofs.Product.{TimesPart, part-start, part-asked, part-more, part-skip, part-end, part-as}
 use Rattle.vector.proofs.times.Statement.{statement}
 use Rattle.vector.proofs.times.Tie as tie
-use Rattle.vector.proofs.times.Reads as reads
-use Rattle.vector.proofs.times.Lts as lts
-use Rattle.vector.proofs.axpy.Reads as axpy-reads
 
 abbrev Inv-loop : tie.InvT-loop
-Inv-loop p b e ys top out₀ n₀ out n = ?
+Inv-loop p b e ys top out₀ n₀ out n = TimesPart p b n ys top out × (n ≤ e)
 
 abbrev μ-loop : tie.MeasureT-loop
-μ-loop p b e ys top out₀ n₀ out n = ?
+μ-loop p b e ys top out₀ n₀ out n = e - n
 
--- src/lib.rt:77:5
 loop-holds : tie.Need-loop-holds Inv-loop μ-loop
-loop-holds c = ?
+loop-holds c = (part-start (c .pre), omega arith)
 
--- src/lib.rt:79:17
 mul-q : tie.Need-mul-q Inv-loop μ-loop
-mul-q c = ?
+mul-q c = omega arith
 
--- src/lib.rt:81:31
 mul-axpy : tie.Need-mul-axpy Inv-loop μ-loop
-mul-axpy c = ?
+mul-axpy c = omega arith
 
--- src/lib.rt:81:31
 element-copy-out-axpy : tie.Need-element-copy-out-axpy Inv-loop μ-loop
-element-copy-out-axpy c = ?
+element-copy-out-axpy c = omega arith
 
--- src/lib.rt:81:37
 mul-axpy-2 : tie.Need-mul-axpy-2 Inv-loop μ-loop
-mul-axpy-2 c = ?
+mul-axpy-2 c = omega arith
 
--- src/lib.rt:81:37
 index-1-axpy : tie.Need-index-1-axpy Inv-loop μ-loop
-index-1-axpy c = ?
+index-1-axpy c = omega arith
 
--- src/lib.rt:81:52
 add-axpy : tie.Need-add-axpy Inv-loop μ-loop
-add-axpy c = ?
+add-axpy c = omega arith
 
--- src/lib.rt:81:13
 axpy-requires : tie.Need-axpy-requires Inv-loop μ-loop
-axpy-requires c κs = ?
+axpy-requires c κs = part-asked (c .before .before .before .before .before .before .pre) (c .before .before .before .before .before .loop .inv .0) (c .before .before .before .before .loop-test .taken) (c .before .before .before .if1 .taken)
 
--- src/lib.rt:83:9
 add-n : tie.Need-add-n Inv-loop μ-loop
-add-n c = ?
+add-n c = omega arith
 
--- src/lib.rt:77:5
 loop-less : tie.Need-loop-less Inv-loop μ-loop
-loop-less c = ?
+loop-less c = omega arith
 
--- src/lib.rt:77:5
 loop-again : tie.Need-loop-again Inv-loop μ-loop
-loop-again c = ?
+loop-again c = (⊎-elim (λ w. part-as (w .5) (part-more (c .before .before .before .pre) (c .before .before .loop .inv .0) (c .before .loop-test .taken) (w .0 .taken) (w .4 .ensures))) (λ w. part-as (w .1) (part-skip (c .before .before .before .pre) (c .before .before .loop .inv .0) (c .before .loop-test .taken) (omega (arith, w .0 .left)))) (c .if1 .came), omega arith)
 
--- src/lib.rt:71:1
 returns : tie.Need-returns Inv-loop μ-loop
-returns c = ?
+returns c = part-end (c .before .before .pre) (c .before .loop .inv .0) (omega arith)
 
 pub times-spec : {M : Type 1} → statement M
 times-spec =

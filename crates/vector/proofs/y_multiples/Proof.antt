@@ -1,25 +1,20 @@
+-- `vector::y_multiples` meets its contract, by `y-rows` of proofs/Powers.
 use borrow.Author.Needs.{needs}
+use Rattle.vector.proofs.Powers.{y-rows}
 use Rattle.vector.proofs.y_multiples.Statement.{statement}
 use Rattle.vector.proofs.y_multiples.Tie as tie
-use Rattle.vector.proofs.y_multiples.Reads as reads
-use Rattle.vector.proofs.y_multiples.Lts as lts
-use Rattle.vector.proofs.times_y.Reads as times-y-reads
 
--- src/lib.rt:65:13
 times-y-requires : tie.Need-times-y-requires
 times-y-requires c κs = search needs
 
--- src/lib.rt:66:31
 add-times-y : tie.Need-add-times-y
 add-times-y c = search needs
 
--- src/lib.rt:66:9
 times-y-requires-2 : tie.Need-times-y-requires-2
 times-y-requires-2 c κs = search needs
 
--- src/lib.rt:61:1
 returns : tie.Need-returns
-returns c = ?
+returns c = y-rows (c .before .before .before .before .pre) (c .before .before .before .times-y .ensures) (c .before .times-y2 .ensures)
 
 pub y-multiples-spec : {M : Type 1} → statement M
 y-multiples-spec = tie.close (tie.spec times-y-requires add-times-y times-y-requires-2 returns)

@@ -1,0 +1,6 @@
+-- The laws of records: refusals, values and bytes, uniqueness, lists.
+pub mod Cause
+pub mod Codes
+pub mod Accepted
+pub mod Written
+pub mod Lists
