@@ -1,0 +1,3 @@
+-- Laws of the calls: classes of records, the answers of each call, adding by pairs.
+pub mod Places
+pub mod Class
