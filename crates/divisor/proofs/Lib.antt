@@ -7,3 +7,4 @@ pub mod Divide
 pub mod Basis
 pub mod Star
 pub mod Unique
+pub mod Exists

@@ -44,7 +44,7 @@ abbrev pub unlike : Bool → Bool
 unlike true = false
 unlike false = true
 
-unlike-not : (b : Bool) → T (unlike b) → ¬ T b
+pub unlike-not : (b : Bool) → T (unlike b) → ¬ T b
 unlike-not true t u = t
 unlike-not false t u = u
 

@@ -24,7 +24,7 @@ use Rattle.curve.specs.Monomial.{coefficient, pick}
 use Rattle.curve.specs.Term.{coefficient-add, coefficient-neg, pick-true}
 use Rattle.curve.specs.Poles.{poles}
 use Rattle.divisor.specs.Kind.{Kind, k0, k11, k21, k22, k31, count, polynomials, IdealOf, IsBasis}
-use Rattle.divisor.proofs.Terms.{Terms, terms, find, places, pole-test, absent, distinct, both, both-left, both-right, unlike, find-absent, coefficient-terms}
+use Rattle.divisor.proofs.Terms.{Terms, terms, find, places, pole-test, absent, distinct, both, both-left, both-right, unlike, unlike-not, find-absent, coefficient-terms}
 use Rattle.divisor.proofs.Table.{degree, Reached, kind-by, degree-class, remaining-poles, reached-absent, Row, rows, poles-of, fill, row-terms, row-value, polynomials-rows}
 use Rattle.divisor.proofs.Basis.{Bare, bare-made, basis-lead, lead-basis}
 
@@ -42,12 +42,8 @@ inside-absent : (ps qs : List ℕ) (m : ℕ) → T (inside ps qs) → T (absent 
 inside-absent [] qs m t u = tt
 inside-absent (p ∷ ps) qs m t u = go (eqb m p) refl (inside-absent ps qs m (both-right (unlike (absent p qs)) (inside ps qs) t) u)
   where
-    clash : (b : Bool) → T (unlike b) → T b → ⊥
-    clash true v w = v
-    clash false v w = w
-
     go : (b : Bool) → eqb m p ≡ b → T (absent m ps) → T (both (unlike b) (absent m ps))
-    go true e v = absurd (clash (absent p qs) (both-left (unlike (absent p qs)) (inside ps qs) t) (subst (λ (q : ℕ). T (absent q qs)) (eqb→eq m p (subst T (sym e) tt)) u))
+    go true e v = absurd (unlike-not (absent p qs) (both-left (unlike (absent p qs)) (inside ps qs) t) (subst (λ (q : ℕ). T (absent q qs)) (eqb→eq m p (subst T (sym e) tt)) u))
     go false e v = v
 
 abbrev row-test : Kind → Row → Bool

@@ -4,3 +4,4 @@ pub mod Codes
 pub mod Accepted
 pub mod Written
 pub mod Lists
+pub mod Unique
