@@ -3,11 +3,11 @@
 --   writes-one, returns-one    two answers to the same input agree, if at most one result is good
 --   Answered Good out r out′   the two answers of a call whose stages are all passed but for the buffer's length: a short buffer is
 --                          refused with 10 and stays; else a good record is written
---   answered               there is no other
---   record-fits            a record has at least 4 and at most 40 bytes
+--   answer                 there is no other
+--   buffer-sound, divisor-stages-sound, one-sound, two-sound, list-of-sound    what a call checks refuses nothing that it passes, and with
+--                          one number only
+--   record-fits            a record takes 4 to 40 bytes
 --   written-length         the buffer keeps its length
---   sum-stages, list-stages    what a sum call and a list call check before the buffer
---   sum-sound, list-stages-sound   … refuses nothing that it passes
 use mathlib.Core.Path.{_≡_, refl, sym, _∙_, ap}
 use mathlib.Core.Logic.{_⊎_, inl, inr}
 use mathlib.Core.List.{List, [], _∷_, _++_}
@@ -61,3 +61,30 @@ answer ss sound p {Good} {out} {r} {out′} (refused n f e q) = go (first-append
     go (inr (_, inl (h, k))) = short (omega (arith, h)) (e ∙ ap minus k) q
     go (inr (_, inr (_, g))) = absurd g
 answer ss sound p {out = out} (written w q g e e′) = enough w (passes-append ss (buffer out) .0 q .1 .0) g e e′
+
+pub buffer-sound : (out : List ℕ) → AllSound (buffer out)
+buffer-sound out = (sound-must 10 (room ≤ length out), tt)
+
+-- What is checked before the buffer: of a curve and one divisor, of a curve and two divisors, of a curve and a list.
+module _ (c a : List ℕ) where
+  pub divisor-stages-sound : AllSound (divisor-of c a)
+  divisor-stages-sound = divisor-sound (modulus c) (equation c) a
+
+  pub one-sound : AllSound (curve-stages c ++ divisor-of c a)
+  one-sound = sound-append (curve-stages c) (divisor-of c a) (curve-sound c) divisor-stages-sound
+
+  pub list-of-sound : AllSound (curve-stages c ++ list-of c a)
+  list-of-sound = sound-append (curve-stages c) (list-of c a) (curve-sound c) (sound-must _ _, (list-sound (modulus c) (equation c) a, tt))
+
+pub two-sound : (c a b : List ℕ) → AllSound (curve-stages c ++ divisor-of c a ++ divisor-of c b)
+two-sound c a b = sound-append (curve-stages c) (divisor-of c a ++ divisor-of c b) (curve-sound c) (sound-append (divisor-of c a) (divisor-of c b) (divisor-stages-sound c a) (divisor-stages-sound c b))
+
+-- The demand: a record takes 4 to 40 bytes, so that it fits in a buffer that is not refused.
+pub record-fits : (c w : List ℕ) → Record c w → (4 ≤ length w) × (length w ≤ room)
+record-fits c w r = go (accepted-reads (modulus c) (equation c) w (r .1))
+  where
+    go : (κ : Kind) × Reads (modulus c) (equation c) κ w → (4 ≤ length w) × (length w ≤ room)
+    go (κ, h) = (omega (arith, h .long, size-least κ), omega (arith, h .long, size-most κ))
+
+pub written-length : (w out : List ℕ) → length w ≤ length out → length (w ++ drop (length w) out) ≡ length out
+written-length w out h = omega (arith, length-append w (drop (length w) out), length-drop (length w) out)
