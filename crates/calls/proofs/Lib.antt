@@ -1,5 +1,6 @@
 -- Laws of the calls: classes of records, the answers of each call, adding by pairs.
 pub mod Places
+pub mod Together
 pub mod Class
 pub mod Multiples
 pub mod Answers

@@ -1,21 +1,21 @@
 -- The places of a pool: what stands there, what is left without two of them, and that nothing is lost.
 --   pick-yes, pick-no      a choice whose test is known
 --   same-place, other-place, long-enough, too-short    the tests of places and of a buffer's length
+--   tally-yes, tally-no    a call that counts, and one that does not
 --   without-none           places before the first one take nothing away
 --   without-turn           the two places may change their names
 --   without-one            a list is an entry and the rest, where one of the places lies before the first
 --   without-two            a list is the two entries and the rest, in another order
 --   perm-length            lists in another order have the same length
---   without-length         two entries are taken away
---   entry-append, entry-last   entries of a list with one more at its end
 use mathlib.Core.Path.{_≡_, refl, sym, _∙_, ap, subst}
-use mathlib.Core.Bool.{Bool, true, false, not}
+use mathlib.Core.Bool.{Bool, true, false}
 use mathlib.Core.List.{List, [], _∷_, _++_, List·Permᴰ, List·Permᴰ·nil, List·Permᴰ·cons, List·Permᴰ·swap, List·Permᴰ·trans, Permᴰ·refl}
 use Prim.Native.Nat.{ℕ, zero, suc, _+_, _<_, _≤_}
 use native.Mathlib.Omega.{arith}
-use lib.ListN.{length, getD, length-append}
-use lib.Dec.{T, T-not, not-T, eqb, leb, eqb→eq, eqb-refl, leb→le, le→leb}
-use Rattle.calls.specs.Pool.{pick, without-from, without}
+use lib.ListN.{length, getD}
+use lib.Dec.{T, eqb, leb, eqb→eq, eqb-refl, leb→le, le→leb}
+use Rattle.calls.specs.Call.{one-if}
+use Rattle.calls.specs.Pool.{pick, without-from}
 
 module _ {A : Type 0} where
   pub pick-yes : (b : Bool) (x y : A) → T b → pick b x y ≡ x
@@ -44,6 +44,20 @@ module _ {A : Type 0} where
   tests-turn true false x y = refl
   tests-turn false true x y = refl
   tests-turn false false x y = refl
+
+pub tally-yes : (m n : ℕ) → m ≤ n → one-if (leb m n) ≡ 1
+tally-yes m n h = go (leb m n) (le→leb m n h)
+  where
+    go : (b : Bool) → T b → one-if b ≡ 1
+    go true t = refl
+    go false t = absurd t
+
+pub tally-no : (m n : ℕ) → n < m → one-if (leb m n) ≡ 0
+tally-no m n h = go (leb m n) (λ t. omega (arith, leb→le m n t))
+  where
+    go : (b : Bool) → ¬ T b → one-if b ≡ 0
+    go true t = absurd (t tt)
+    go false t = refl
 
 module _ {A : Type 0} where
   pub without-none : (n i j : ℕ) (xs : List A) → i < n → j < n → without-from n i j xs ≡ xs
