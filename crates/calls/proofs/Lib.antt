@@ -5,3 +5,5 @@ pub mod Class
 pub mod Multiples
 pub mod Answers
 pub mod Determined
+pub mod Step
+pub mod Pairs

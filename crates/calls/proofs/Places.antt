@@ -2,10 +2,7 @@
 --   pick-yes, pick-no      a choice whose test is known
 --   same-place, other-place, long-enough, too-short    the tests of places and of a buffer's length
 --   tally-yes, tally-no    a call that counts, and one that does not
---   without-none           places before the first one take nothing away
---   without-turn           the two places may change their names
---   without-one            a list is an entry and the rest, where one of the places lies before the first
---   without-two            a list is the two entries and the rest, in another order
+--   without-both           a list is the entries at two different places and the rest, in another order
 --   perm-length            lists in another order have the same length
 use mathlib.Core.Path.{_≡_, refl, sym, _∙_, ap, subst}
 use mathlib.Core.Bool.{Bool, true, false}
@@ -15,7 +12,7 @@ use native.Mathlib.Omega.{arith}
 use lib.ListN.{length, getD}
 use lib.Dec.{T, eqb, leb, eqb→eq, eqb-refl, leb→le, le→leb}
 use Rattle.calls.specs.Call.{one-if}
-use Rattle.calls.specs.Pool.{pick, without-from}
+use Rattle.calls.specs.Pool.{pick, without-from, without}
 
 module _ {A : Type 0} where
   pub pick-yes : (b : Bool) (x y : A) → T b → pick b x y ≡ x
@@ -60,18 +57,18 @@ tally-no m n h = go (leb m n) (λ t. omega (arith, leb→le m n t))
     go false t = refl
 
 module _ {A : Type 0} where
-  pub without-none : (n i j : ℕ) (xs : List A) → i < n → j < n → without-from n i j xs ≡ xs
+  without-none : (n i j : ℕ) (xs : List A) → i < n → j < n → without-from n i j xs ≡ xs
   without-none n i j [] a b = refl
   without-none n i j (x ∷ xs) a b =
       other-place n i _ _ (omega arith) ∙ other-place n j _ _ (omega arith) ∙ ap (λ (ys : List A). x ∷ ys) (without-none (suc n) i j xs (omega arith) (omega arith))
 
-  pub without-turn : (n i j : ℕ) (xs : List A) → without-from n i j xs ≡ without-from n j i xs
+  without-turn : (n i j : ℕ) (xs : List A) → without-from n i j xs ≡ without-from n j i xs
   without-turn n i j [] = refl
   without-turn n i j (x ∷ xs) =
       tests-turn (eqb n i) (eqb n j) (without-from (suc n) i j xs) (x ∷ without-from (suc n) i j xs)
       ∙ ap (λ (ys : List A). pick (eqb n j) ys (pick (eqb n i) ys (x ∷ ys))) (without-turn (suc n) i j xs)
 
-  pub without-one : (xs : List A) (n i k : ℕ) (d : A) → i < n → k < length xs → List·Permᴰ xs (getD xs k d ∷ without-from n i (n + k) xs)
+  without-one : (xs : List A) (n i k : ℕ) (d : A) → i < n → k < length xs → List·Permᴰ xs (getD xs k d ∷ without-from n i (n + k) xs)
   without-one [] n i k d a b = absurd (omega arith)
   without-one (x ∷ xs) n i zero d a b =
       subst (λ (ys : List A). List·Permᴰ (x ∷ xs) (x ∷ ys)) (sym (other-place n i _ _ (omega arith) ∙ same-place n (n + 0) _ _ (omega arith) ∙ without-none (suc n) i (n + 0) xs (omega arith) (omega arith))) (Permᴰ·refl (x ∷ xs))
@@ -84,7 +81,7 @@ module _ {A : Type 0} where
           ∙ other-place n (n + suc k) _ _ (omega arith)
           ∙ ap (λ (m : ℕ). x ∷ without-from (suc n) i m xs) (omega arith)
 
-  pub without-two : (xs : List A) (n k l : ℕ) (d : A) → k < length xs → l < length xs → ¬ (k ≡ l)
+  without-two : (xs : List A) (n k l : ℕ) (d : A) → k < length xs → l < length xs → ¬ (k ≡ l)
       → List·Permᴰ xs (getD xs k d ∷ getD xs l d ∷ without-from n (n + k) (n + l) xs)
   without-two [] n k l d a b h = absurd (omega arith)
   without-two (x ∷ xs) n zero zero d a b h = absurd (h refl)
@@ -112,6 +109,11 @@ module _ {A : Type 0} where
           ∙ other-place n (n + suc l) _ _ (omega arith)
           ∙ ap (λ (m : ℕ). x ∷ without-from (suc n) m (n + suc l) xs) (omega arith)
           ∙ ap (λ (m : ℕ). x ∷ without-from (suc n) (suc n + k) m xs) (omega arith)
+
+  pub without-both : (xs : List A) (i j : ℕ) (d : A) → i < length xs → j < length xs → ¬ (i ≡ j) → List·Permᴰ xs (getD xs i d ∷ getD xs j d ∷ without i j xs)
+  without-both xs i j d a b h =
+      subst (λ (m : ℕ). List·Permᴰ xs (getD xs i d ∷ getD xs j d ∷ without-from 0 m j xs)) (omega arith)
+      (subst (λ (m : ℕ). List·Permᴰ xs (getD xs i d ∷ getD xs j d ∷ without-from 0 (0 + i) m xs)) (omega arith) (without-two xs 0 i j d a b h))
 
   pub perm-length : {xs ys : List A} → List·Permᴰ xs ys → length xs ≡ length ys
   perm-length List·Permᴰ·nil = refl

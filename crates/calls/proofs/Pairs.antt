@@ -1,0 +1,2 @@
+-- x
+use mathlib.Core.Path.{_≡_}
