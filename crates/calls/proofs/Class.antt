@@ -28,7 +28,7 @@ use Rattle.field.specs.Field.{F}
 use Rattle.ideal.specs.Ideal.{IsIdeal, Product, SameIdeal, Equivalent}
 use Rattle.ideal.specs.Poles.{Poles}
 use Rattle.ideal.specs.Reduced.{IsStar, IsReduced}
-use Rattle.ideal.proofs.Same.{same-refl, same-sym}
+use Rattle.ideal.proofs.Same.{same-refl, same-sym, same-trans}
 use Rattle.ideal.proofs.Every.{Every}
 use Rattle.ideal.proofs.Class.{equivalent-same, equivalent-trans}
 use Rattle.ideal.proofs.Product.{product-comm, product-unit, product-same, product-ideal, product-equivalent}
@@ -101,8 +101,10 @@ module _ (c : List ℕ) where
   zero-accepted = (bytes-record 0 [], reads-accepted (modulus c) (equation c) k0 zero-record zero-reads)
 
   pub zero-ideal : SameIdeal (Ring c) (λ _. Unit) (Ideal c zero-record)
-  zero-ideal g =
-      (λ _. written-ideal k0 [] refl (modulus c) (equation c) (λ i. omega arith) g .1 (g, R .zero, refl, sym (R .add-zero (R .mul g (R .one)) ∙ R .mul-one g)), λ _. tt)
+  zero-ideal g = (
+    λ _. written-ideal k0 [] refl (modulus c) (equation c) (λ i. omega arith) g .1 (g, R .zero, refl, sym (R .add-zero (R .mul g (R .one)) ∙ R .mul-one g)),
+    λ _. tt,
+  )
     where
       R : CommRing
       R = Ring c
@@ -146,8 +148,10 @@ module _ (c : List ℕ) (A : AcceptedCurve c) where
 
   pub zero-neutral : (a : List ℕ) → Record c a → IsSum c zero-record a a
   zero-neutral a r =
-      class-reduced c a r
-      (equivalent-trans P (equivalent-same P (product-same (Ring c) (same-sym (Ring c) (zero-ideal c)) (same-refl (Ring c) (Ideal c a)))) (equivalent-same P (product-unit (Ring c) (accepted-ideal c A a (r .1)))))
+      class-reduced c a r (equivalent-same P (same-trans (Ring c) whole (product-unit (Ring c) (accepted-ideal c A a (r .1)))))
+    where
+      whole : SameIdeal (Ring c) (Product (Ring c) (Ideal c zero-record) (Ideal c a)) (Product (Ring c) (λ _. Unit) (Ideal c a))
+      whole = product-same (Ring c) (same-sym (Ring c) (zero-ideal c)) (same-refl (Ring c) (Ideal c a))
 
   pub negative-one : (a w w′ : List ℕ) → Accepted c a → IsNegative c a w → IsNegative c a w′ → w ≡ w′
   negative-one a w w′ r h h′ = record-same w w′ (h .0) (h′ .0) (star-unique P (accepted-ideal c A a r) (h .1 A) (h′ .1 A))

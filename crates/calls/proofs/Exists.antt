@@ -48,8 +48,10 @@ module _ (c : List ℕ) (A : AcceptedCurve c) where
       go (f, s) = at (record-with (setting-of c A) (A .1 .1 .1 .0 .1) (star-small P (accepted-based c A a h) s))
         where
           at : OneRecord (RecordWith (setting-of c A) (Colon (Ring c) f (Ideal c a))) → (w : List ℕ) × IsNegative c a w
-          at o =
-              (o .bytes, any-star c A a (o .bytes) (o .has .bytes, o .has .accepted) (record { f = s .f; least = s .least; same = same-trans (Ring c) (same-sym (Ring c) (o .has .same)) (s .same) }))
+          at o = (o .bytes, any-star c A a (o .bytes) (o .has .bytes, o .has .accepted) star)
+            where
+              star : IsStar P (Ideal c a) (Ideal c (o .bytes))
+              star = record { f = s .f; least = s .least; same = same-trans (Ring c) (same-sym (Ring c) (o .has .same)) (s .same) }
 
   pub list-record : (rs : List (List ℕ)) → AcceptedRow c rs → (w : List ℕ) × IsListSum c rs w
   list-record [] a = (zero-record, refl)
