@@ -1,0 +1,24 @@
+/* Vectors by pole number and triples, as core.h explains them.
+
+   zero         the vector 0
+   times_y      y * v
+   y_multiples  v, y * v, y^2 * v
+   empty        the triple without members
+   insert       puts a vector into the module of a triple
+   closed       is y times each member in the module
+   product      the triple of the product of two modules */
+#ifndef SPAN_H
+#define SPAN_H
+#include "core.h"
+
+void zero(uint32_t v[26]);
+/* out = y * v, for v below top <= 22. */
+void times_y(uint32_t p, const uint32_t f[26], const uint32_t v[26], unsigned top, uint32_t out[26]);
+/* ys = v, y * v, y^2 * v, for v below top <= 18. */
+void y_multiples(uint32_t p, const uint32_t f[26], const uint32_t v[26], unsigned top, uint32_t ys[3][26]);
+
+void empty(uint32_t t[3][26], unsigned d[3]);
+/* Puts v, below top, into the module of the triple; v is used up. */
+void insert(uint32_t p, uint32_t t[3][26], unsigned d[3], uint32_t v[26], unsigned top);
+
+#endif

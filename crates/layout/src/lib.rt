@@ -1,0 +1,120 @@
+// The bytes of a record: reading and writing little-endian numbers in a slice of bytes, and whole records.
+// specs/Layout.antt says what the numbers and the bytes are.
+ghost use mathlib.Core.Path.{_≡_};
+ghost use mathlib.Core.List.{[], _∷_, _++_};
+ghost use Prim.Native.Nat.{_+_, _*_, _≤_, _<_};
+ghost use lib.ListN.{getD, take, drop};
+ghost use Rattle.layout.specs.Layout.{bytes2, bytes4, all-bytes4, record-bytes};
+ghost use Rattle.layout.specs.Contracts.{Read2, Read4, Same};
+
+// A byte as a wider number.
+fn wide(b: u8) -> u32
+    ensures { λ r. ⌜ (r ≡ b) × (r < 256) ⌝ }
+{
+    b as u32
+}
+
+// The byte at place `at`.
+fn byte(s: &[u8], at: usize) -> u32
+    requires { do ⌜ at < (← ⟦s.len()⟧) ⌝ }
+    ensures { λ r. ⌜ (r ≡ getD (now (s .entry)) at 0) × (r < 256) ⌝ }
+{
+    wide(s[at])
+}
+
+// The two-byte number at place `at`.
+pub fn read_u16(s: &[u8], at: usize) -> u32
+    requires { do ⌜ at + 2 ≤ (← ⟦s.len()⟧) ⌝ }
+    ensures { λ r. ⌜ Read2 (now (s .entry)) at r ⌝ }
+{
+    byte(s, at) + 256 * byte(s, at + 1)
+}
+
+// The four-byte number at place `at`.
+pub fn read_u32(s: &[u8], at: usize) -> u32
+    requires { do ⌜ at + 4 ≤ (← ⟦s.len()⟧) ⌝ }
+    ensures { λ r. ⌜ Read4 (now (s .entry)) at r ⌝ }
+{
+    byte(s, at) + 256 * byte(s, at + 1) + 65536 * byte(s, at + 2) + 16777216 * byte(s, at + 3)
+}
+
+// Writes v as a two-byte number at place `at`.
+pub fn write_u16(s: &mut [u8], at: usize, v: u32)
+    requires { do ⌜ at + 2 ≤ (← ⟦s.len()⟧) ⌝ }
+    requires { ⌜ v < 65536 ⌝ }
+    ensures { λ _. ⌜ now (s .exit) ≡ take at (now (s .entry)) ++ bytes2 v ++ drop (at + 2) (now (s .entry)) ⌝ }
+{
+    s[at] = (v % 256) as u8;
+    s[at + 1] = (v / 256 % 256) as u8;
+}
+
+// Writes v as a four-byte number at place `at`.
+pub fn write_u32(s: &mut [u8], at: usize, v: u32)
+    requires { do ⌜ at + 4 ≤ (← ⟦s.len()⟧) ⌝ }
+    ensures { λ _. ⌜ now (s .exit) ≡ take at (now (s .entry)) ++ bytes4 v ++ drop (at + 4) (now (s .entry)) ⌝ }
+{
+    s[at] = (v % 256) as u8;
+    s[at + 1] = (v / 256 % 256) as u8;
+    s[at + 2] = (v / 65536 % 256) as u8;
+    s[at + 3] = (v / 16777216 % 256) as u8;
+}
+
+// Writes the first `count` numbers of ns, four bytes each, from place `at` on.
+pub fn write_numbers(out: &mut [u8], at: usize, ns: &[u32], count: usize)
+    requires { do ⌜ at + 4 * count ≤ (← ⟦out.len()⟧) ⌝ }
+    requires { do ⌜ count ≤ (← ⟦ns.len()⟧) ⌝ }
+    ensures { λ _. ⌜ now (out .exit) ≡ take at (now (out .entry)) ++ all-bytes4 (take count (now (ns .entry))) ++ drop (at + 4 * count) (now (out .entry)) ⌝ }
+{
+    let mut i = 0;
+    while i < count {
+        let place = at + 4 * i;
+        write_u32(out, place, ns[i]);
+        i += 1;
+    }
+}
+
+// Writes the record of the first `count` of the nine numbers at the start of `out`, and returns its length.
+pub fn write_record(
+    out: &mut [u8],
+    kind: u32,
+    count: usize,
+    n0: u32,
+    n1: u32,
+    n2: u32,
+    n3: u32,
+    n4: u32,
+    n5: u32,
+    n6: u32,
+    n7: u32,
+    n8: u32,
+) -> usize
+    requires { ⌜ count ≤ 9 ⌝ }
+    requires { ⌜ kind < 65536 ⌝ }
+    requires { do ⌜ 4 + 4 * count ≤ (← ⟦out.len()⟧) ⌝ }
+    ensures size { λ r. ⌜ r ≡ 4 + 4 * count ⌝ }
+    ensures written { λ _. ⌜ now (out .exit) ≡ record-bytes kind (take count (n0 ∷ n1 ∷ n2 ∷ n3 ∷ n4 ∷ n5 ∷ n6 ∷ n7 ∷ n8 ∷ [])) ++ drop (4 + 4 * count) (now (out .entry)) ⌝ }
+{
+    let size = 4 + 4 * count;
+    write_u16(out, 0, size as u32);
+    write_u16(out, 2, kind);
+    let ns = [n0, n1, n2, n3, n4, n5, n6, n7, n8];
+    write_numbers(out, 4, &ns, count);
+    size
+}
+
+// Whether a and b are the same bytes.
+pub fn same_bytes(a: &[u8], b: &[u8]) -> bool
+    ensures { λ r. ⌜ Same (now (a .entry)) (now (b .entry)) r ⌝ }
+{
+    if a.len() != b.len() {
+        return false;
+    }
+    let mut i = 0;
+    while i < a.len() {
+        if a[i] != b[i] {
+            return false;
+        }
+        i += 1;
+    }
+    true
+}
