@@ -142,7 +142,7 @@ module _ {p : ℕ} (S : Setting p) {t : List (List ℕ)} {d : List ℕ} (T : Tri
       q = present-of T j h l
 
   pub all-whole : ((g : Car) → Spanned S t g) → Whole d
-  all-whole f = record { zeroth = omega (arith, reach 0 pole-zero); first = first (reach 4 four) ; second = second (reach 8 (pole-large (omega arith))) }
+  all-whole f = record { zeroth = omega (arith, reach 0 pole-zero); first = first (reach 4 four); second = second (reach 8 (pole-large (omega arith))) }
     where
       reach : (n : ℕ) → IsPole n → (at d (n % 3) ≤ n) × (at d (n % 3) < width)
       reach n k = spanned-lead (f (P .mono n)) (mono-has P k)

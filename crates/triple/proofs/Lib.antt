@@ -2,7 +2,8 @@
 pub mod Element
 pub mod Members
 pub mod Leads
-pub mod Turn
-pub mod Insert
-pub mod Reduce
-pub mod Product
+pub mod Turns
+pub mod Insertion
+pub mod Reduction
+pub mod Products
+pub mod Filling

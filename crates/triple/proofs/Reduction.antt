@@ -2,15 +2,17 @@
 --   cleared-here, cleared-above    clear takes the number at n away and leaves those above it
 --   Reducing               reduce's invariant: v has no number at a lead from n on
 --   reduce-start, reduce-asked, reduce-clear, reduce-skip, reduce-end
---   at-yes, at-no          y times a member leaves the rest 0 or not
---   closed-more, closed-all, closed-none   the loop of closed
+--   at-times-asked, at-reduce-asked        what closed_at asks of times_y and reduce
+--   at-yes, at-no, at-test y times a member leaves the rest 0 or not
+--   Closing, closed-start, closed-more, closed-stop, closed-end    the loop of closed
 use mathlib.Core.Path.{_≡_, refl, sym, _∙_, ap, ap₂, subst}
-use mathlib.Core.Bool.{Bool, true, false}
+use mathlib.Core.Bool.{Bool, true, false, not}
 use mathlib.Core.List.{List, [], _∷_}
 use Prim.Native.Nat.{ℕ, zero, suc, _+_, _*_, _-_, _/_, _%_, _<_, _≤_}
 use native.Mathlib.Omega.{arith}
 use native.Mathlib.Decide.{ℕ-discrete, decLt}
 use lib.ListN.{length, List·getD-eq-default}
+use borrow.Author.Tests.{not-true, not-false}
 use Rattle.algebra.specs.Ring.{CommRing}
 use Rattle.algebra.proofs.Laws as L
 use Rattle.field.specs.Residue.{Z, el}
@@ -20,12 +22,12 @@ use Rattle.curve.specs.Curve.{Curve, Coordinate, y}
 use Rattle.curve.specs.Monomial.{coefficient}
 use Rattle.curve.specs.Term.{coefficient-zero, coefficient-add, coefficient-constant-mul}
 use Rattle.vector.specs.Vector.{Vec, Top, at, res, row, element, x-to, scalar, width}
-use Rattle.vector.specs.Contract.{ClearAsked, Cleared, TimesY, ZeroTest}
+use Rattle.vector.specs.Contract.{ClearAsked, Cleared, TimesYAsked, TimesY, ZeroTest}
 use Rattle.vector.proofs.Monomial.{shift-high}
 use Rattle.vector.proofs.Element.{element-coefficient}
 use Rattle.triple.specs.Setting.{Setting, ring, poles-of, Ready}
 use Rattle.triple.specs.Triple.{Present, Triple, elements, Spanned}
-use Rattle.triple.specs.Contract.{ReduceAsked, Rest, Open, AtTest, ClosedTest}
+use Rattle.triple.specs.Contract.{ReduceAsked, Rest, Open, ClosedAsked, AtAsked, AtTest, ClosedTest}
 use Rattle.triple.proofs.Element.{constant-in, x-to-in, element-zero}
 use Rattle.triple.proofs.Members.{spanned-row}
 use Rattle.triple.proofs.Leads.{present-of}
@@ -125,15 +127,32 @@ module _ {p n m : ℕ} {t : List (List ℕ)} {d v v′ : List ℕ} (h : Reducing
           u : ring S .Car
           u = ring S .mul (ring S .mul (scalar p (S .curve) (at v′ m)) (x-to p (S .curve) ((m - at d (m % 3)) / 3))) (element p (S .curve) (row t (m % 3)))
 
-  pub reduce-skip : ¬ (at d (m % 3) ≤ m) → Reducing p t d v v′ m
+  pub reduce-skip : m < at d (m % 3) → Reducing p t d v v′ m
   reduce-skip l = record { triple = h .triple; vec = h .vec; room = omega (arith, h .room); normal = λ i k b r. normal i k b r (ℕ-discrete i m); coset = h .coset }
     where
       normal : (i : ℕ) → m ≤ i → i < width → at d (i % 3) ≤ i → Dec (i ≡ m) → at v′ i ≡ 0
-      normal i k b r (yes q) = absurd (l (subst (λ i. at d (i % 3) ≤ i) q r))
+      normal i k b r (yes q) = absurd (let r′ : at d (m % 3) ≤ m = subst (λ i. at d (i % 3) ≤ i) q r in omega arith)
       normal i k b r (no q) = h .normal i (omega arith) b r
 
 pub reduce-end : {p n : ℕ} {t : List (List ℕ)} {d v v′ : List ℕ} → Reducing p t d v v′ n → n ≡ 0 → Rest p t d v v′
 reduce-end h e = record { vec = h .vec; normal = λ m l r. h .normal m (omega arith) l r; coset = h .coset }
+
+module _ {p j : ℕ} {f : List ℕ} {t : List (List ℕ)} {d : List ℕ} (h : AtAsked p f t d j) where
+  small : at d j ≤ 8
+  small = h .closed .small j (h .inside)
+
+  pub at-times-asked : TimesYAsked p f (row t j) (at d j + 1)
+  at-times-asked =
+      record {
+        f-vec = h .closed .ready .f-vec;
+        f-top = h .closed .ready .f-top;
+        v-vec = h .closed .full .triple .member j (h .inside) .vec;
+        v-top = λ i l. h .closed .full .present j (h .inside) .top i (omega arith);
+        room = omega (arith, small);
+      }
+
+  pub at-reduce-asked : {w : List ℕ} → TimesY p f (row t j) (at d j + 1) w → ReduceAsked p t d w (at d j + 5)
+  at-reduce-asked a = record { triple = h .closed .full .triple; vec = a .vec; v-top = λ i l. a .top-out i (omega arith); room = omega (arith, small) }
 
 -- y times the j-th member is a vector w, which leaves the rest v
 module _ {p top : ℕ} {f : List ℕ} (t : List (List ℕ)) (j : ℕ) {d w v : List ℕ} (a : TimesY p f (row t j) top w) (r : Rest p t d w v) where
@@ -174,3 +193,25 @@ module _ {p top : ℕ} {f : List ℕ} (t : List (List ℕ)) (j : ℕ) {d w v : L
 
   pub at-test : {q : Bool} → j < 3 → ZeroTest v q → AtTest p f t d j q
   at-test l z = record { yes-at = λ e. at-yes (z .zero-vector e); no-at = λ e. let (n, b, k) = z .nonzero e in at-no l n k }
+
+-- y times each of the first j members is in the span
+pub record Closing (p : ℕ) (f : List ℕ) (t : List (List ℕ)) (d : List ℕ) (j : ℕ) : Type 0 where
+  pub asked : ClosedAsked p f t d
+  pub seen : (i : ℕ) → i < j → (R : Ready p f) → Spanned (R .setting) t (ring (R .setting) .mul (y (R .setting .curve)) (element p (R .setting .curve) (row t i)))
+
+pub closed-start : {p : ℕ} {f : List ℕ} {t : List (List ℕ)} {d : List ℕ} → ClosedAsked p f t d → Closing p f t d 0
+closed-start h = record { asked = h; seen = λ i l. absurd (omega arith) }
+
+module _ {p j : ℕ} {f : List ℕ} {t : List (List ℕ)} {d : List ℕ} (h : Closing p f t d j) where
+  pub closed-more : {r : Bool} → AtTest p f t d j r → not r ≡ false → Closing p f t d (j + 1)
+  closed-more {r} a e = record { asked = h .asked; seen = λ i l. go i l (ℕ-discrete i j) }
+    where
+      go : (i : ℕ) → i < j + 1 → Dec (i ≡ j) → (R : Ready p f) → Spanned (R .setting) t (ring (R .setting) .mul (y (R .setting .curve)) (element p (R .setting .curve) (row t i)))
+      go i l (yes q) = rw q (a .yes-at (not-false r e))
+      go i l (no q) = h .seen i (omega arith)
+
+  pub closed-stop : {r : Bool} → AtTest p f t d j r → not r ≡ true → ClosedTest p f t d false
+  closed-stop {r} a e = record { yes-closed = λ q. let z : _≡_ {A = ℕ} 0 1 = cc in absurd (omega arith); no-closed = λ q. a .no-at (not-true r e) }
+
+  pub closed-end : 3 ≤ j → ClosedTest p f t d true
+  closed-end l = record { yes-closed = λ q R i k. h .seen i (omega arith) R; no-closed = λ q. let z : _≡_ {A = ℕ} 0 1 = cc in absurd (omega arith) }

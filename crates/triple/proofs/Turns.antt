@@ -119,7 +119,7 @@ module _ {p m : ℕ} {t : List (List ℕ)} {d v : List ℕ} (h : TurnAsked p t d
           same = λ S. same-trans (poles-of S) (cleared-same (set t j u) j (omega (arith, long, length-set t j u)) c S) (swapped S);
         }
 
-    pub turn-fill : ¬ (at d j < width) → Turned p t d v m (set t j u) (set d j m) (row t j) 0
+    pub turn-fill : width ≤ at d j → Turned p t d v m (set t j u) (set d j m) (row t j) 0
     turn-fill k =
         record {
           triple = set-triple;
