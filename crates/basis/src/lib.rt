@@ -3,7 +3,7 @@ ghost use mathlib.Core.Path.{_≡_};
 ghost use Prim.Native.Nat.{_<_};
 ghost use Rattle.divisor.specs.Kind.{k0, k11, k21, k22, k31};
 ghost use Rattle.vector.specs.Vector.{width};
-ghost use Rattle.basis.specs.Contract.{coefficients, IsTriple, TripleOf};
+ghost use Rattle.basis.specs.Contract.{coefficients, IsTriple, TripleOf, BasisAsked, BasisTest};
 
 pub struct Divisor {
     pub kind: u32,
@@ -107,4 +107,15 @@ fn triple_31(r: Divisor, t: &mut [[u32; 26]; 3], d: &mut [usize; 3])
     let rows = [a, b, c];
     *t = rows;
     *d = [6, 7, 8];
+}
+
+// Is the record a basis?
+pub fn is_basis(p: u32, f: &[u32; 26], r: Divisor) -> bool
+    requires { ⌜ BasisAsked p (now f) r ⌝ }
+    ensures { λ b. ⌜ BasisTest p (now (f .entry)) r b ⌝ }
+{
+    let mut t = [[0u32; 26]; 3];
+    let mut d = [0usize; 3];
+    triple_of(r, &mut t, &mut d);
+    triple::closed(p, f, &t, &d)
 }

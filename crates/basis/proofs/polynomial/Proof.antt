@@ -1,36 +1,28 @@
+-- `basis::polynomial` meets its contract: the five stores are the list's.
 use mathlib.Core.Path.{refl}
 use Rattle.basis.specs.Contract.{coefficients}
 use borrow.Author.Needs.{needs}
 use Rattle.basis.proofs.polynomial.Statement.{statement}
 use Rattle.basis.proofs.polynomial.Tie as tie
-use Rattle.basis.proofs.polynomial.Reads as reads
-use Rattle.basis.proofs.polynomial.Lts as lts
 
--- src/lib.rt:27:5
 array-write-v : tie.Need-array-write-v
 array-write-v c = search needs
 
--- src/lib.rt:28:5
 array-write-v-2 : tie.Need-array-write-v-2
 array-write-v-2 c = search needs
 
--- src/lib.rt:29:5
 array-write-v-3 : tie.Need-array-write-v-3
 array-write-v-3 c = search needs
 
--- src/lib.rt:30:5
 array-write-v-4 : tie.Need-array-write-v-4
 array-write-v-4 c = search needs
 
--- src/lib.rt:31:5
 mul-v : tie.Need-mul-v
 mul-v c = search needs
 
--- src/lib.rt:31:5
 array-write-v-5 : tie.Need-array-write-v-5
 array-write-v-5 c = search needs
 
--- src/lib.rt:22:1
 returns : tie.Need-returns
 unfolding coefficients
 returns c = refl

@@ -1,53 +1,40 @@
+-- `basis::triple_of` meets its contract: the branch taken is that of the record's kind.
+use native.Mathlib.Omega.{arith}
+use Rattle.divisor.specs.Kind.{k0, k11, k21, k22}
+use Rattle.basis.proofs.Choice.{only, rest-31, chosen}
 use borrow.Author.Needs.{needs}
 use Rattle.basis.proofs.triple_of.Statement.{statement}
 use Rattle.basis.proofs.triple_of.Tie as tie
-use Rattle.basis.proofs.triple_of.Reads as reads
-use Rattle.basis.proofs.triple_of.Lts as lts
-use Rattle.basis.proofs.triple_0.Reads as triple-0-reads
-use Rattle.basis.proofs.triple_11.Reads as triple-11-reads
-use Rattle.basis.proofs.triple_21.Reads as triple-21-reads
-use Rattle.basis.proofs.triple_22.Reads as triple-22-reads
-use Rattle.basis.proofs.triple_31.Reads as triple-31-reads
 
--- src/lib.rt:40:9
 triple-0-requires : tie.Need-triple-0-requires
 triple-0-requires c κs = search needs
 
--- src/lib.rt:42:9
 triple-11-requires : tie.Need-triple-11-requires
 triple-11-requires c κs = search needs
 
--- src/lib.rt:44:9
 triple-21-requires : tie.Need-triple-21-requires
 triple-21-requires c κs = search needs
 
--- src/lib.rt:46:9
 triple-22-requires : tie.Need-triple-22-requires
 triple-22-requires c κs = search needs
 
--- src/lib.rt:48:9
 triple-31-requires : tie.Need-triple-31-requires
 triple-31-requires c κs = search needs
 
--- src/lib.rt:36:1
 returns : tie.Need-returns
-returns c = ?
+returns c = chosen (c .triple-0 .ensures) (λ p κ. only κ k0 (c .before .before .before .if1 .taken))
 
--- src/lib.rt:36:1
 returns-2 : tie.Need-returns-2
-returns-2 c = ?
+returns-2 c = chosen (c .triple-11 .ensures) (λ p κ. only κ k11 (c .before .before .before .if2 .taken))
 
--- src/lib.rt:36:1
 returns-3 : tie.Need-returns-3
-returns-3 c = ?
+returns-3 c = chosen (c .triple-21 .ensures) (λ p κ. only κ k21 (c .before .before .before .if3 .taken))
 
--- src/lib.rt:36:1
 returns-4 : tie.Need-returns-4
-returns-4 c = ?
+returns-4 c = chosen (c .triple-22 .ensures) (λ p κ. only κ k22 (c .before .before .before .if4 .taken))
 
--- src/lib.rt:36:1
 returns-5 : tie.Need-returns-5
-returns-5 c = ?
+returns-5 c = chosen (c .triple-31 .ensures) (λ p κ. rest-31 κ (omega arith) (omega arith) (omega arith) (omega arith))
 
 pub triple-of-spec : {M : Type 1} → statement M
 triple-of-spec =
