@@ -6,3 +6,6 @@ pub mod Build
 pub mod Equations
 pub mod Member
 pub mod Degrees
+pub mod Pairing
+pub mod Numbers
+pub mod Lambda
