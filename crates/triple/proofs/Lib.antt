@@ -7,3 +7,5 @@ pub mod Insertion
 pub mod Reduction
 pub mod Products
 pub mod Filling
+pub mod Vectors
+pub mod Singular
