@@ -29,7 +29,7 @@ use Rattle.star.proofs.Build.{Begun, begun-start, begun-next, begun-don
 pub record Partial (p k : ℕ) (ys : List (List ℕ)) (d s : ℕ) (lam : List ℕ) : Type 0 where
   pub lambda : Lambda p lam d
   pub high : Top lam (d + s)
-  pub begun : (C : Curve (Z p)) (g : Coordinate C .Car) → Unit-of p k C → RowsOf p C ys g → Begun C width g d s (res p lam)
+  pub begun : (C : Curve (Z p)) (g : Coordinate C .Car) → Unit-of p k C → RowsOf p C ys g → coefficient C d g ≡ Z p .one → Begun C width g d s (res p lam)
 
 no-gap : (n : ℕ) → 6 ≤ n → IsGap n → {A : Type 0} → A
 no-gap n h (inl e) = absurd (omega arith)
@@ -48,7 +48,7 @@ module _ {p k d : ℕ} {ys : List (List ℕ)} (G : Given p k ys d) where
       record {
         lambda = record { vec = vec-set zeros (d + largest-gap) 1 (G .large) (omega (arith, G .high)) (λ g. no-gap (d + largest-gap) (omega (arith, G .low)) g); low = λ n h. first n (omega arith) };
         high = λ n h. first n (omega arith);
-        begun = λ C g u o. begun-start C width g d (res p (set (replicate 26 0) (d + largest-gap) 1)) (ap (el p) (getD-set-same (replicate 26 0) (d + largest-gap) 1 0 (omega (arith, zeros .len, G .high))) ∙ el-one p) (λ n v. ap (el p) (first n v) ∙ el-zero p);
+        begun = λ C g u o m. begun-start C width g d (res p (set (replicate 26 0) (d + largest-gap) 1)) (ap (el p) (getD-set-same (replicate 26 0) (d + largest-gap) 1 0 (omega (arith, zeros .len, G .high))) ∙ el-one p) (λ n v. ap (el p) (first n v) ∙ el-zero p);
       }
 
   module _ {s : ℕ} {lam : List ℕ} (B : Partial p k ys d s lam) (from : 6 ≤ s) (to : s < 14) where
@@ -72,13 +72,6 @@ module _ {p k d : ℕ} {ys : List (List ℕ)} (G : Given p k ys d) where
       below =
           coefficient-below C (suc d) g (λ m h. ap (coefficient C m) (sym is-first) ∙ element-coefficient p C (G .rows .vec 0 (omega arith)) m ∙ ap (el p) (G .rows .tops 0 (omega arith) m (omega arith)) ∙ el-zero p)
 
-      monic : coefficient C d g ≡ Z p .one
-      monic =
-          ap (coefficient C d) (sym is-first)
-          ∙ element-coefficient p C (G .rows .vec 0 (omega arith)) d
-          ∙ ap (el p) (G .monic)
-          ∙ el-one p
-
       at-mono : {v : ℕ} → Valued p lam (row ys (s % 3)) (s - 4 * (s % 3)) v → el p v ≡ apply C width (res p lam) (Coordinate C .mul (mono C s) g)
       unfolding mono monomial
       at-mono w =
@@ -92,12 +85,12 @@ module _ {p k d : ℕ} {ys : List (List ℕ)} (G : Given p k ys d) where
       others : (n : ℕ) → ¬ (n ≡ d + s) → at (set lam (d + s) r) n ≡ at lam n
       others n u = getD-set-other lam (d + s) n r 0 u
 
-      more : (C : Curve (Z p)) (g : Coordinate C .Car) → Unit-of p k C → RowsOf p C ys g → Begun C width g d (suc s) (res p (set lam (d + s) r))
-      more C g u o = go (q .is C s d u refl)
+      more : (C : Curve (Z p)) (g : Coordinate C .Car) → Unit-of p k C → RowsOf p C ys g → coefficient C d g ≡ Z p .one → Begun C width g d (suc s) (res p (set lam (d + s) r))
+      more C g u o m = go (q .is C s d u refl)
         where
           go : (c : Z p .Car) × (Z p .mul c (twist C s d) ≡ Z p .one) × (el p r ≡ Z p .neg (Z p .mul c (el p v))) → Begun C width g d (suc s) (res p (set lam (d + s) r))
           go (c, e, f) =
-              begun-next C width (B .begun C g u o) (below C g o) (monic C g o) from (omega (arith, G .high)) c e (λ n t. ap (el p) (others n t)) (ap (el p) (getD-set-same lam (d + s) r 0 inside) ∙ f ∙ ap (λ t. Z p .neg (Z p .mul c t)) (at-mono C g o w))
+              begun-next C width (B .begun C g u o m) (below C g o) m from (omega (arith, G .high)) c e (λ n t. ap (el p) (others n t)) (ap (el p) (getD-set-same lam (d + s) r 0 inside) ∙ f ∙ ap (λ t. Z p .neg (Z p .mul c t)) (at-mono C g o w))
 
       pub partial-more : Partial p k ys d (s + 1) (set lam (d + s) r)
       partial-more =
@@ -110,4 +103,4 @@ module _ {p k d : ℕ} {ys : List (List ℕ)} (G : Given p k ys d) where
 
 pub partial-done : {p k d s : ℕ} {ys : List (List ℕ)} {lam : List ℕ} → s ≡ 14 → Partial p k ys d s lam → FunctionalOf p k ys d lam
 partial-done {p} {k} {d} {s} {ys} {lam} e B =
-    record { lambda = B .lambda; is = λ C g u o. begun-done C width (subst (λ n. Begun C width g d n (res p lam)) e (B .begun C g u o)) }
+    record { lambda = B .lambda; is = λ C g u o m. begun-done C width (subst (λ n. Begun C width g d n (res p lam)) e (B .begun C g u o m)) }

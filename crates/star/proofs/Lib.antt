@@ -9,3 +9,4 @@ pub mod Degrees
 pub mod Pairing
 pub mod Numbers
 pub mod Lambda
+pub mod Candidate

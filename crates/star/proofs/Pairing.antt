@@ -1,8 +1,8 @@
 -- What value and value_at compute: Λ(x^(s/3)·v) and Λ(mono n·x^(h/3)·g), and the numbers that are made of them.
---   valued             the sum over the places where both factors can be other than 0 is the functional's value
---   value-asked        what value_at asks of value
---   value-at           the y-multiples of g, shifted, are the products of mono n·x^(h/3) with g
---   value-at-none      … with no shift
+--   valued-shifted, valued-plain       the sum from s, and from c, is the functional's value
+--   value-asked                        what value_at asks of value
+--   value-at                           the y-multiples of g, shifted, are the products of mono n·x^(h/3) with g
+--   value-at-none                      … with no shift
 use mathlib.Core.Path.{_≡_, refl, sym, _∙_, ap, ap₂}
 use mathlib.Core.List.{List}
 use mathlib.Core.Logic.{_⊎_, inl, inr, ⊎-elim}
@@ -56,8 +56,12 @@ module _ {p c s to : ℕ} {lam v : List ℕ} (A : ValueAsked p lam c v s to) (C 
       total-range (Z p) (λ n. res p lam n ·ₖ coefficient C n moved) from to width (A .room) (λ n l. ⊎-elim (λ k. lam-zero n (A .low n k)) (low-zero n) (low n l)) (λ n l b. end-zero n l (decLt n s))
       ∙ total-same (Z p) _ _ (to - from) (λ i l. ap (λ u. res p lam (from + i) ·ₖ u) (at-high (from + i) (omega arith)))
 
-pub valued : {p c s to r : ℕ} {lam v : List ℕ} → ValueAsked p lam c v s to → (from : ℕ) → s ≤ from → ((n : ℕ) → n < from → (n < c) ⊎ (n < s)) → Is p r (pairing p lam v s from to) → Valued p lam v s r
-valued A from h low i = record { below = i .below; is = λ C. i .is ∙ sym (ranged A C from h low) }
+module _ {p c s to r : ℕ} {lam v : List ℕ} (A : ValueAsked p lam c v s to) where
+  pub valued-shifted : Is p r (pairing p lam v s s to) → Valued p lam v s r
+  valued-shifted i = record { below = i .below; is = λ C. i .is ∙ sym (ranged A C s (omega arith) (λ n h. inr h)) }
+
+  pub valued-plain : s ≤ c → Is p r (pairing p lam v s c to) → Valued p lam v s r
+  valued-plain h i = record { below = i .below; is = λ C. i .is ∙ sym (ranged A C c h (λ n l. inl l)) }
 
 power-add : (R : CommRing) (a : R .Car) (m n : ℕ) → power R a (m + n) ≡ R .mul (power R a m) (power R a n)
 unfolding power

@@ -5,7 +5,7 @@
 --   ValueAsked, Valued           value: Λ(x^(s/3)·v)
 --   AtAsked, ValueAt             value_at: Λ(mono n·x^(h/3)·g) from the y-multiples of g
 --   OppositeAsked, OppositeOf    opposite: −v over the lead of a product of monic elements
---   Given, FunctionalOf          functional: lam is the functional of f
+--   Given, FunctionalOf          functional: lam is the functional of a monic f
 --   PosedU, PosedW               what the numbers of J* are read from: Λ and the y-multiples of u, of w
 --   ValuesOf                     values_of: Λ(y·w), Λ(y·v) and Λ(x·v), v = x^(h/3)·w
 --   YAsked, XAsked, OneAsked, TermY, TermX, TermOne      term_y, term_x, term_one: the numbers of a candidate mono n + a4·y + a3·x + a0, one after the other
@@ -21,9 +21,9 @@ use Rattle.ideal.specs.Ideal.{IsIdeal}
 use Rattle.ideal.specs.Poles.{largest-gap}
 use Rattle.ideal.specs.Reduced.{IsStar}
 use Rattle.curve.specs.Curve.{Curve, Coordinate}
-use Rattle.curve.specs.Monomial.{mono, twist}
+use Rattle.curve.specs.Monomial.{coefficient, mono, twist}
 use Rattle.divisor.specs.Kind.{Kind, IdealOf}
-use Rattle.vector.specs.Vector.{Vec, at, res, row, element, x-to, width}
+use Rattle.vector.specs.Vector.{Vec, at, res, element, x-to, width}
 use Rattle.vector.specs.Contract.{Rows, RowsOf}
 use Rattle.triple.specs.Setting.{Setting, ring, poles-of, Ready}
 use Rattle.triple.specs.Triple.{Full, Spanned}
@@ -98,18 +98,17 @@ pub record OppositeOf (p k m v r : ℕ) : Type 0 where
   pub is : (C : Curve (Z p)) (a b : ℕ) → Unit-of p k C → a % 3 + b % 3 ≡ m
       → (c : Z p .Car) × (Z p .mul c (twist C a b) ≡ Z p .one) × (el p r ≡ Z p .neg (Z p .mul c (el p v)))
 
--- the y-multiples of a monic f of degree d; below 3 the only degree is 0
+-- the y-multiples of an element of degree d; below 3 the only degree is 0
 pub record Given (p k : ℕ) (ys : List (List ℕ)) (d : ℕ) : Type 0 where
   pub large : 1 < p
   pub k-below : k < p
   pub rows : Rows p ys (d + 1)
-  pub monic : at (row ys 0) d ≡ 1
   pub low : 3 ≤ d
   pub high : d ≤ 12
 
 pub record FunctionalOf (p k : ℕ) (ys : List (List ℕ)) (d : ℕ) (lam : List ℕ) : Type 0 where
   pub lambda : Lambda p lam d
-  pub is : (C : Curve (Z p)) (g : Coordinate C .Car) → Unit-of p k C → RowsOf p C ys g → Functional C width g d (res p lam)
+  pub is : (C : Curve (Z p)) (g : Coordinate C .Car) → Unit-of p k C → RowsOf p C ys g → coefficient C d g ≡ Z p .one → Functional C width g d (res p lam)
 
 pub record PosedU (p k : ℕ) (lam : List ℕ) (us : List (List ℕ)) (d d1 : ℕ) : Type 0 where
   pub k-below : k < p
