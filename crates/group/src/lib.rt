@@ -1,6 +1,6 @@
 // Sums, negatives and multiples of divisors by value, on the curve whose y³ is f; k is the inverse of −a0.
 use basis::Divisor;
-ghost use Rattle.group.specs.Contract.{NegativeAsked, NegativeOf, SumAsked, SumOf, MultipleOf};
+ghost use Rattle.group.specs.Contract.{NegativeAsked, NegativeOf, SumAsked, SumOf, ProductStarOf, MultipleOf, ZeroClass};
 
 // I*, for the ideal I of a.
 pub fn negative(p: u32, k: u32, f: &[u32; 26], a: Divisor) -> Divisor
@@ -29,7 +29,10 @@ pub fn sum(p: u32, k: u32, f: &[u32; 26], a: Divisor, b: Divisor) -> Divisor
 }
 
 // J*, for the product J of the ideals of a and b.
-fn product_star(p: u32, k: u32, f: &[u32; 26], a: Divisor, b: Divisor) -> Divisor {
+fn product_star(p: u32, k: u32, f: &[u32; 26], a: Divisor, b: Divisor) -> Divisor
+    requires { ⌜ SumAsked p k (now f) a b ⌝ }
+    ensures { λ r. ⌜ ProductStarOf p k (now (f .entry)) a b r ⌝ }
+{
     let mut t1 = [[0u32; 26]; 3];
     let mut d1 = [0usize; 3];
     basis::triple_of(a, &mut t1, &mut d1);
@@ -65,7 +68,9 @@ pub fn multiple(p: u32, k: u32, f: &[u32; 26], a: Divisor, m: u64) -> Divisor
 }
 
 // The zero class.
-pub fn zero_class() -> Divisor {
+pub fn zero_class() -> Divisor
+    ensures { λ r. ⌜ ZeroClass r ⌝ }
+{
     Divisor {
         kind: 0,
         n0: 0,
