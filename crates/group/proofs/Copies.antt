@@ -4,6 +4,7 @@
 --   copies-one             a stands for one copy of itself
 --   copies-sum             the sum of i and j copies stands for i + j copies
 --   Held S a D m w r b n   r stands for i and b for j copies, and i + n·(w·j) = m
+--   held-add, held-twice   r and b, or b and b, may be added
 --   held-start             at the start r is the zero class, b is a and n is m
 --   held-odd, held-even    b is added to r if n is odd, and n halved
 --   held-done              there is no need to double b if n is then 0
@@ -23,7 +24,7 @@ use Rattle.triple.specs.Setting.{Setting, ring, poles-of}
 use Rattle.basis.specs.declared.Divisor.{Divisor}
 use Rattle.group.specs.Contract.{Ground, IsDivisor, ideal, SumAsked, SumOf, copies, IsMultiple, ZeroClass}
 use Rattle.group.proofs.Divisor.{divisor-footprint, kind-zero, zero-divisor}
-use Rattle.group.proofs.Sum.{sum-equivalent}
+use Rattle.group.proofs.Sums.{sum-equivalent}
 
 odd-total : (n i j : ℕ) → n % 2 ≡ 1 → i + j + n / 2 * (2 * j) ≡ i + n * (1 * j)
 odd-total n i j e = ring (n / 2) i j ∙ ap (λ u. i + u * (1 * j)) (omega arith)
@@ -69,6 +70,12 @@ module _ {p k : ℕ} {f : List ℕ} (G : Ground p k f) {a : Divisor} (D : IsDivi
     pub r-is : IsMultiple S a D i r
     pub b-is : IsMultiple S a D j b
     pub total : i + n * (w * j) ≡ m
+
+  pub held-add : {m w : ℕ} {r b : Divisor} {n : ℕ} → Held m w r b n → SumAsked p k f r b
+  held-add h = record { ground = G; a-is = h .r-is .0; b-is = h .b-is .0 }
+
+  pub held-twice : {m w : ℕ} {r b : Divisor} {n : ℕ} → Held m w r b n → SumAsked p k f b b
+  held-twice h = record { ground = G; a-is = h .b-is .0; b-is = h .b-is .0 }
 
   module _ {m : ℕ} where
     pub held-start : {r : Divisor} → ZeroClass r → Held m 1 r a m

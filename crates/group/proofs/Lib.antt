@@ -1,5 +1,5 @@
 -- Laws of the functions on divisors by value.
 pub mod Divisor
-pub mod Star
-pub mod Sum
+pub mod Stars
+pub mod Sums
 pub mod Copies

@@ -1,4 +1,5 @@
 -- The sum of two divisors: the reduced ideal of the product of their ideals.
+--   star-divisor           the star of the product is a divisor, whose negative may be asked for
 --   sum-of                 the star of the star of the product
 --   sum-left, sum-right    with a divisor of kind 0 the other one
 --   sum-equivalent         the product is equivalent to the ideal of the sum
@@ -14,14 +15,16 @@ use Rattle.ideal.proofs.Reduced.{star-star, equivalent-reduced, reduced-equival
 use Rattle.ideal.proofs.Finite.{product-based}
 use Rattle.triple.specs.Setting.{Setting, ring, poles-of}
 use Rattle.basis.specs.declared.Divisor.{Divisor}
-use Rattle.group.specs.Contract.{IsDivisor, ideal, NegativeOf, SumAsked, SumOf, ProductStarOf}
+use Rattle.group.specs.Contract.{IsDivisor, ideal, NegativeAsked, NegativeOf, SumAsked, SumOf, ProductStarOf}
 use Rattle.group.proofs.Divisor.{divisor-footprint, divisor-based, kind-zero}
+
+pub star-divisor : {p k : ℕ} {f : List ℕ} {a b s : Divisor} → ProductStarOf p k f a b s → SumAsked p k f a b → NegativeAsked p k f s
+star-divisor h A = record { ground = A .ground; a-is = h A .0 }
 
 pub sum-of : {p k : ℕ} {f : List ℕ} {a b s r : Divisor} → ProductStarOf p k f a b s → NegativeOf p k f s r → SumOf p k f a b r
 sum-of h n A =
-    let s = h A in
-    let r = n (record { ground = A .ground; a-is = s .0 }) in
-    (r .0, star-star (poles-of (A .ground .ready .setting)) (s .1) (r .1))
+    let r = n (record { ground = A .ground; a-is = h A .0 }) in
+    (r .0, star-star (poles-of (A .ground .ready .setting)) (h A .1) (r .1))
 
 module _ {p : ℕ} (S : Setting p) {a b : Divisor} (D : IsDivisor S a) (E : IsDivisor S b) where
   whole-times : a .kind ≡ 0 → SameIdeal (ring S) (Product (ring S) (ideal S a D) (ideal S b E)) (ideal S b E)
