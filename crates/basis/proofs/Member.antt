@@ -1,6 +1,7 @@
 -- The vectors of a record stand for its members.
---   sum-1 … sum-8            a sum M + a7·xy + a4·y + a3·x + a0 in which some of the numbers are 0
---   row-of κ …               the rows of each kind have the kind's degrees
+--   sum-none … sum-7-4       a sum M + a7·xy + a4·y + a3·x + a0 in which some of the numbers are 0, as the members are written
+--   full-of, small-of        three vectors of the degrees of a kind are a full triple
+--   rows-0 … rows-31         the vectors of each kind
 --   tripled                  the vectors of a record are a triple of its members
 use mathlib.Core.Path.{_≡_, refl, sym, _∙_, ap, ap₂, subst}
 use mathlib.Core.List.{List, [], _∷_, map}
@@ -59,7 +60,8 @@ module _ (R : CommRing) where
   sum-7-4 : (u v b a : Car) → sum-of R (v ⊗ v) u v b a 𝟎 𝟎 ≡ v ⊗ (v ⊕ b ⊗ u ⊕ a)
   sum-7-4 = solve R 4 (λ u v b a. v ⊠ v ⊞ (b ⊠ (u ⊠ v) ⊞ (a ⊠ v ⊞ (nil ⊠ u ⊞ nil)))) (λ u v b a. v ⊠ (v ⊞ b ⊠ u ⊞ a)) tt
 
-full-of : {p d₀ d₁ d₂ : ℕ} {v₀ v₁ v₂ : List ℕ} → Vec p v₀ → Vec p v₁ → Vec p v₂ → Present v₀ 0 d₀ → Present v₁ 1 d₁ → Present v₂ 2 d₂ → Full p (v₀ ∷ v₁ ∷ v₂ ∷ []) (d₀ ∷ d₁ ∷ d₂ ∷ [])
+full-of : {p d₀ d₁ d₂ : ℕ} {v₀ v₁ v₂ : List ℕ} → Vec p v₀ → Vec p v₁ → Vec p v₂
+    → Present v₀ 0 d₀ → Present v₁ 1 d₁ → Present v₂ 2 d₂ → Full p (v₀ ∷ v₁ ∷ v₂ ∷ []) (d₀ ∷ d₁ ∷ d₂ ∷ [])
 full-of {p} {d₀} {d₁} {d₂} {v₀} {v₁} {v₂} a b c pa pb pc =
     record {
       triple =
@@ -107,7 +109,9 @@ rows-tripled {κ = κ} h =
 
 module _ {p : ℕ} (large : 1 < p) (r : Divisor) (below : (i : ℕ) → at (numbers r) i < p) where
   -- the vector's element, with the monomial and the numbers that are 0 put in
-  value-of : (C : Curve (Z p)) {m a0 a3 a4 a7 : ℕ} {M b7 b4 b3 b0 : Coordinate C .Car} → Monomials p m a0 a3 a4 a7 → mono C m ≡ M → scalar p C a7 ≡ b7 → scalar p C a4 ≡ b4 → scalar p C a3 ≡ b3 → scalar p C a0 ≡ b0 → element p C (coefficients m a0 a3 a4 a7) ≡ sum-of (Coordinate C) M (x C) (y C) b7 b4 b3 b0
+  value-of : (C : Curve (Z p)) {m a0 a3 a4 a7 : ℕ} {M b7 b4 b3 b0 : Coordinate C .Car} → Monomials p m a0 a3 a4 a7
+      → mono C m ≡ M → scalar p C a7 ≡ b7 → scalar p C a4 ≡ b4 → scalar p C a3 ≡ b3 → scalar p C a0 ≡ b0
+      → element p C (coefficients m a0 a3 a4 a7) ≡ sum-of (Coordinate C) M (x C) (y C) b7 b4 b3 b0
   value-of C h e₁ e₂ e₃ e₄ e₅ = row-value h C ∙ cc (e₁, e₂, e₃, e₄, e₅)
 
   none : (C : Curve (Z p)) → scalar p C 0 ≡ Coordinate C .zero

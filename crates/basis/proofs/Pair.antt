@@ -28,7 +28,8 @@ use Rattle.basis.specs.Divisor.{residues}
 use Rattle.basis.specs.Contract.{Tripled}
 use Rattle.basis.proofs.Ideal.{triple-spanned, based-ideal, based-same}
 
-module _ {p : ℕ} {f : List ℕ} {κ₁ κ₂ : Kind} {r₁ r₂ : Divisor} {t₁ t₂ t : List (List ℕ)} {d₁ d₂ d : List ℕ} (R : Ready p f) (h₁ : Tripled p κ₁ r₁ t₁ d₁) (h₂ : Tripled p κ₂ r₂ t₂ d₂) (m : Multiplied p f t₁ t₂ t d) where
+module _ {p : ℕ} {f : List ℕ} {κ₁ κ₂ : Kind} {r₁ r₂ : Divisor} {t₁ t₂ t : List (List ℕ)} {d₁ d₂ d : List ℕ}
+    (R : Ready p f) (h₁ : Tripled p κ₁ r₁ t₁ d₁) (h₂ : Tripled p κ₂ r₂ t₂ d₂) (m : Multiplied p f t₁ t₂ t d) where
   abbrev S : Setting p
   S = R .setting
 
@@ -52,5 +53,6 @@ module _ {p : ℕ} {f : List ℕ} {κ₁ κ₂ : Kind} {r₁ r₂ : Divisor} {t�
     pub pair-ideal : IsIdeal (ring S) (Spanned S t)
     pair-ideal = ideal-same (ring S) (same-sym (ring S) (m .same R)) (product-ideal (ring S) (based-ideal h₁ S b₁))
 
-    pub pair-same : IsBasis C κ₂ (residues p r₂) → SameIdeal (ring S) (Spanned S t) (Product (ring S) (IdealOf C κ₁ (residues p r₁)) (IdealOf C κ₂ (residues p r₂)))
+    pub pair-same : IsBasis C κ₂ (residues p r₂)
+        → SameIdeal (ring S) (Spanned S t) (Product (ring S) (IdealOf C κ₁ (residues p r₁)) (IdealOf C κ₂ (residues p r₂)))
     pair-same b₂ = same-trans (ring S) (m .same R) (product-same (ring S) (based-same h₁ S b₁) (based-same h₂ S b₂))

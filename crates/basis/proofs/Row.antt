@@ -1,7 +1,8 @@
 -- The vector of a polynomial mono m + a7·xy + a4·y + a3·x + a0.
---   element-set        a store at a place that was 0 adds a multiple of a normal monomial
---   Monomials m …      the numbers at places from m on are 0, and all are below p
---   row-vec, row-present, row-value      the vector is monic of degree m, and stands for the polynomial
+--   element-set            a store at a place that was 0 adds a multiple of a normal monomial
+--   Monomials p m …        m is the polynomial's degree: its lower terms stand below m, or are 0
+--   row-vec, row-present   the vector is a vector, monic of degree m
+--   row-value              it stands for the polynomial
 use mathlib.Core.Path.{_≡_, refl, sym, _∙_, ap, ap₂, subst}
 use mathlib.Core.List.{List}
 use mathlib.Core.Logic.{inl, inr}
@@ -21,7 +22,8 @@ use Rattle.curve.specs.Coefficient.{constant-one}
 use Rattle.curve.specs.Monomial.{coefficient, mono}
 use Rattle.curve.specs.Term.{coefficient-add, coefficient-constant-mul, coefficient-ext}
 use Rattle.curve.specs.Product.{coefficient-mono}
-use Rattle.divisor.proofs.Monomials.{coefficient-mono-other, mono-one, mono-x, mono-y, mono-xy}
+use Rattle.curve.proofs.Monomial.{coefficient-mono-other}
+use Rattle.divisor.proofs.Monomials.{mono-one, mono-x, mono-y, mono-xy}
 use Rattle.vector.specs.Vector.{Vec, Top, at, res, width, element, scalar}
 use Rattle.vector.proofs.Loop.{set-cases, vec-set, zeros-at}
 use Rattle.vector.proofs.Element.{element-coefficient, element-zero}
@@ -29,7 +31,8 @@ use Rattle.vector.proofs.Product.{zeros-vec}
 use Rattle.triple.specs.Triple.{Present}
 use Rattle.basis.specs.Contract.{coefficients}
 
-pub element-set : (p : ℕ) (C : Curve (Z p)) {v : List ℕ} → Vec p v → (n c : ℕ) → c < p → n < width → IsPole n → at v n ≡ 0 → element p C (set v n c) ≡ Coordinate C .add (Coordinate C .mul (scalar p C c) (mono C n)) (element p C v)
+pub element-set : (p : ℕ) (C : Curve (Z p)) {v : List ℕ} → Vec p v → (n c : ℕ) → c < p → n < width → IsPole n → at v n ≡ 0
+    → element p C (set v n c) ≡ Coordinate C .add (Coordinate C .mul (scalar p C c) (mono C n)) (element p C v)
 element-set p C {v} h n c b l q z =
     coefficient-ext C (λ m. element-coefficient p C (vec-set h n c b l (λ g. absurd (q g))) m ∙ go m (ℕ-discrete m n) ∙ sym (right m))
   where
@@ -51,14 +54,13 @@ element-set p C {v} h n c b l q z =
     go m (no f) =
         ap (el p) (getD-set-other v n m c 0 f)
         ∙ sym
-        (ap (λ u. Z p .add (Z p .mul (el p c) u) (res p v m)) (coefficient-mono-other C n m q f)
+        (ap (λ u. Z p .add (Z p .mul (el p c) u) (res p v m)) (coefficient-mono-other C m n q f)
         ∙ ap (λ u. Z p .add u (res p v m)) (L.mul-zero (Z p) _)
         ∙ L.zero-add (Z p) _)
 
 top-set : (v : List ℕ) (n q c : ℕ) → q < length v → Top v n → (n ≤ q → c ≡ 0) → Top (set v q c) n
 top-set v n q c l t z i h = set-cases (λ a. a ≡ 0) v q c i l (λ e. z (omega arith)) (λ e. t i h)
 
--- the polynomial has the degree m: its lower terms stand below m, or are 0
 pub record Monomials (p m a0 a3 a4 a7 : ℕ) : Type 0 where
   pub large : 1 < p
   pub apart-1 : ¬ (m ≡ 1)
