@@ -10,3 +10,5 @@ pub mod Pairing
 pub mod Numbers
 pub mod Lambda
 pub mod Candidate
+pub mod Asked
+pub mod Result

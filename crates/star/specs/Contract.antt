@@ -6,11 +6,14 @@
 --   AtAsked, ValueAt             value_at: Λ(mono n·x^(h/3)·g) from the y-multiples of g
 --   OppositeAsked, OppositeOf    opposite: −v over the lead of a product of monic elements
 --   Given, FunctionalOf          functional: lam is the functional of a monic f
---   PosedU, PosedW               what the numbers of J* are read from: Λ and the y-multiples of u, of w
+--   PosedU, PosedW, Posed        what the numbers of J* are read from: Λ and the y-multiples of u, of w, of both
 --   ValuesOf                     values_of: Λ(y·w), Λ(y·v) and Λ(x·v), v = x^(h/3)·w
 --   YAsked, XAsked, OneAsked, TermY, TermX, TermOne      term_y, term_x, term_one: the numbers of a candidate mono n + a4·y + a3·x + a0, one after the other
 --   SolveAsked, Solved           solve: … all three
+--   divisor-11 … divisor-31      the divisors of the kinds, their numbers taken from candidates
 --   Made11 … Made31              star_11 … star_31: the divisor has the numbers of its kind's candidates
+--   ByKind                       by_kind: … of the kind that the degrees tell
+--   FromAsked                    star_from: the least degree is at hand, and the star is not the zero class
 use mathlib.Core.Path.{_≡_}
 use mathlib.Core.List.{List}
 use mathlib.Core.Logic.{_⊎_}
@@ -184,32 +187,52 @@ pub record Solved (p k : ℕ) (lam : List ℕ) (us ws : List (List ℕ)) (d d1 d
   pub x-term : TermX p lam ws d d2 n (r .a4) (r .a3)
   pub one-term : TermOne p lam ws d d2 n (r .a4) (r .a3) (r .a0)
 
+-- x + f0; y + g0
+abbrev pub divisor-11 : Terms → Terms → Divisor
+divisor-11 f g =
+    record { kind = 11; n0 = f .a0; n1 = g .a0; n2 = 0; n3 = 0; n4 = 0; n5 = 0; n6 = 0; n7 = 0; n8 = 0 }
+
+-- y + f1·x + f0; x² + g1·x + g0
+abbrev pub divisor-21 : Terms → Terms → Divisor
+divisor-21 f g =
+    record { kind = 21; n0 = f .a0; n1 = f .a3; n2 = g .a0; n3 = g .a3; n4 = 0; n5 = 0; n6 = 0; n7 = 0; n8 = 0 }
+
+-- x + f0; y² + g1·y + g0
+abbrev pub divisor-22 : Terms → Terms → Divisor
+divisor-22 f g =
+    record { kind = 22; n0 = f .a0; n1 = g .a0; n2 = g .a4; n3 = 0; n4 = 0; n5 = 0; n6 = 0; n7 = 0; n8 = 0 }
+
+-- x² + f2·y + f1·x + f0; xy + g2·y + g1·x + g0; y² + h2·y + h1·x + h0
+abbrev pub divisor-31 : Terms → Terms → Terms → Divisor
+divisor-31 f g h =
+    record { kind = 31; n0 = f .a0; n1 = f .a3; n2 = f .a4; n3 = g .a0; n4 = g .a3; n5 = g .a4; n6 = h .a0; n7 = h .a3; n8 = h .a4 }
+
+pub record Posed (p k : ℕ) (lam : List ℕ) (us ws : List (List ℕ)) (d d1 d2 : ℕ) : Type 0 where
+  pub u-posed : PosedU p k lam us d d1
+  pub w-posed : PosedW p lam ws d d2
+
 module _ (p k : ℕ) (lam : List ℕ) (us ws : List (List ℕ)) (d d1 d2 : ℕ) where
-  -- x + f0; y + g0
   pub record Made11 (r : Divisor) : Type 0 where
     pub f : Terms
     pub g : Terms
     pub f-solved : Solved p k lam us ws d d1 d2 3 f
     pub g-solved : Solved p k lam us ws d d1 d2 4 g
-    pub is : r ≡ record { kind = 11; n0 = f .a0; n1 = g .a0; n2 = 0; n3 = 0; n4 = 0; n5 = 0; n6 = 0; n7 = 0; n8 = 0 }
+    pub is : r ≡ divisor-11 f g
 
-  -- y + f1·x + f0; x² + g1·x + g0
   pub record Made21 (r : Divisor) : Type 0 where
     pub f : Terms
     pub g : Terms
     pub f-solved : Solved p k lam us ws d d1 d2 4 f
     pub g-solved : Solved p k lam us ws d d1 d2 6 g
-    pub is : r ≡ record { kind = 21; n0 = f .a0; n1 = f .a3; n2 = g .a0; n3 = g .a3; n4 = 0; n5 = 0; n6 = 0; n7 = 0; n8 = 0 }
+    pub is : r ≡ divisor-21 f g
 
-  -- x + f0; y² + g1·y + g0
   pub record Made22 (r : Divisor) : Type 0 where
     pub f : Terms
     pub g : Terms
     pub f-solved : Solved p k lam us ws d d1 d2 3 f
     pub g-solved : Solved p k lam us ws d d1 d2 8 g
-    pub is : r ≡ record { kind = 22; n0 = f .a0; n1 = g .a0; n2 = g .a4; n3 = 0; n4 = 0; n5 = 0; n6 = 0; n7 = 0; n8 = 0 }
+    pub is : r ≡ divisor-22 f g
 
-  -- x² + f2·y + f1·x + f0; xy + g2·y + g1·x + g0; y² + h2·y + h1·x + h0
   pub record Made31 (r : Divisor) : Type 0 where
     pub f : Terms
     pub g : Terms
@@ -217,4 +240,16 @@ module _ (p k : ℕ) (lam : List ℕ) (us ws : List (List ℕ)) (d d1 d2 : ℕ) 
     pub f-solved : Solved p k lam us ws d d1 d2 6 f
     pub g-solved : Solved p k lam us ws d d1 d2 7 g
     pub h-solved : Solved p k lam us ws d d1 d2 8 h
-    pub is : r ≡ record { kind = 31; n0 = f .a0; n1 = f .a3; n2 = f .a4; n3 = g .a0; n4 = g .a3; n5 = g .a4; n6 = h .a0; n7 = h .a3; n8 = h .a4 }
+    pub is : r ≡ divisor-31 f g h
+
+  pub data ByKind (r : Divisor) : Type 0 where
+    is-31 : d1 ≡ d + 1 → d2 ≡ d + 2 → Made31 r → ByKind r
+    is-21 : ¬ (d1 ≡ d + 1) → d2 ≡ d + 2 → Made21 r → ByKind r
+    is-22 : d1 ≡ d + 1 → ¬ (d2 ≡ d + 2) → Made22 r → ByKind r
+    is-11 : ¬ (d1 ≡ d + 1) → ¬ (d2 ≡ d + 2) → Made11 r → ByKind r
+
+-- the least degree is that of the class j, and the star is not the zero class
+pub record FromAsked (p k : ℕ) (f : List ℕ) (t : List (List ℕ)) (d : List ℕ) (j : ℕ) : Type 0 where
+  pub asked : StarAsked p k f t d
+  pub least : LeastOf d j
+  pub some : ¬ (at d ((j + 2) % 3) ≡ at d j + 8)
