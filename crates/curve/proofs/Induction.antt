@@ -3,11 +3,11 @@
 --   Stable U           U holds 0 and is closed under sums, constant multiples and multiplication by x and y
 --   stable-ideal       such a U is an ideal
 --   ideal-stable       an ideal is such a U
-use mathlib.Core.Path.{_≡_, refl, sym, _∙_, ap, ap₂, subst}
-use Prim.Native.Nat.{ℕ, zero, suc, _+_, _≤_}
+use mathlib.Core.Path.{_≡_, sym, subst}
+use Prim.Native.Nat.{ℕ, zero, suc}
 use Rattle.algebra.specs.Ring.{CommRing, Field}
 use Rattle.algebra.proofs.Laws as L
-use Rattle.algebra.proofs.Solve.{solve, _⊞_, _⊠_, ⊟_}
+use Rattle.algebra.proofs.Solve.{solve, _⊞_, ⊟_}
 use Rattle.ideal.specs.Ideal.{IsIdeal}
 use Rattle.curve.specs.Curve.{Curve, Coordinate, x, y, constant}
 use Rattle.curve.specs.Pole.{x-power, y-power}

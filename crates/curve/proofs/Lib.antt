@@ -5,3 +5,4 @@ pub mod Induction
 pub mod Multiple
 pub mod Equation
 pub mod Vector
+pub mod Monomial

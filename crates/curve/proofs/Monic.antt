@@ -3,18 +3,18 @@
 --                      the lead of g has pole number n exactly if its coefficient at n is not 0 and those above n are
 --   monic-coefficient, coefficient-monic
 --                      g is monic with lead n exactly if n is a pole number, its coefficient there is 1 and those above n are 0
-use mathlib.Core.Path.{_≡_, refl, sym, _∙_, ap, ap₂, subst}
-use Prim.Native.Nat.{ℕ, zero, suc, _+_, _≤_, _<_}
+use mathlib.Core.Path.{_≡_, sym, _∙_, ap, ap₂, subst}
+use Prim.Native.Nat.{ℕ, zero, suc, _<_}
 use native.Mathlib.Omega.{arith}
 use Rattle.algebra.specs.Ring.{CommRing, Field}
 use Rattle.algebra.proofs.Laws as L
-use Rattle.algebra.proofs.Solve.{solve, _⊞_, _⊠_, ⊟_}
+use Rattle.algebra.proofs.Solve.{solve, _⊞_, ⊟_}
 use Rattle.ideal.specs.Poles.{IsPole, HasPole, Monic}
 use Rattle.curve.specs.Curve.{Curve, Coordinate, constant}
 use Rattle.curve.specs.Coefficient.{constant-one}
 use Rattle.curve.specs.Monomial.{coefficient, mono}
 use Rattle.curve.specs.Term.{coefficient-add}
-use Rattle.curve.specs.Filtration.{Below, below-coefficient, coefficient-below, below-add, below-more, below-step}
+use Rattle.curve.specs.Filtration.{Below, below-coefficient, coefficient-below, below-add, below-more}
 use Rattle.curve.specs.Product.{below-mono, coefficient-mono, split}
 use Rattle.curve.specs.Poles.{poles, lead-nonzero}
 

@@ -6,15 +6,12 @@
 --   coefficient-y-1    at n ≡ 1: s(n−4) − (c2·s(n+4) + c4·s(n+1) + c7·s(n−2))
 --   coefficient-y-2    at n ≡ 2: s(n−4) − (c5·s(n) + c8·s(n−3))
 use mathlib.Core.Path.{_≡_, refl, sym, _∙_, ap, ap₂}
-use mathlib.Core.List.{List, [], _∷_}
-use mathlib.Core.Logic.{_⊎_, inl, inr}
-use Prim.Native.Nat.{ℕ, zero, suc, _+_, _*_, _-_, _/_, _%_, _≤_, _<_}
+use mathlib.Core.Logic.{inl, inr}
+use Prim.Native.Nat.{ℕ, zero, suc, _+_, _*_, _-_, _/_, _%_, _≤_}
 use native.Mathlib.Omega.{arith}
 use Rattle.algebra.specs.Ring.{CommRing}
-use Rattle.algebra.proofs.Laws as L
-use Rattle.ideal.specs.Poles.{IsGap, IsPole}
 use Rattle.curve.specs.Curve.{Curve, Coordinate, y, at}
-use Rattle.curve.specs.Back.{back, back-none, back-first, back-next, back-high, back-shift, back-vanish, weigh}
+use Rattle.curve.specs.Back.{back, back-none, back-first, back-next, back-high, back-shift, back-vanish}
 use Rattle.curve.specs.Coefficient.{at-y-0, at-y-1, at-y-2}
 use Rattle.curve.specs.Pole.{pole}
 use Rattle.curve.specs.Monomial.{coefficient}

@@ -6,10 +6,9 @@
 --   at-x-first at-x-next                 of x·g
 --   at-y-0 at-y-1 at-y-2                 of y·g, with −(t2·y² + t1·y + t0) for y³
 --   constant-zero … constant-mul         constants are a subring
-use mathlib.Core.Path.{_≡_, refl, sym, _∙_, ap, ap₂}
-use mathlib.Core.List.{List, [], _∷_}
+use mathlib.Core.Path.{_≡_, sym, _∙_, ap}
+use mathlib.Core.List.{[], _∷_}
 use Prim.Native.Nat.{ℕ, zero, suc, _≤_}
-use native.Mathlib.Omega.{arith}
 use lib.Dec.{lit≤}
 use Rattle.algebra.specs.Ring.{CommRing}
 use Rattle.polynomial.specs.Poly.{Poly, coef, poly-path, const, X}

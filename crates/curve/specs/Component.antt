@@ -6,14 +6,14 @@
 --   embed-zero embed-one embed-add embed-neg embed-mul embed-inj embedding     A is a subring
 --   y-cubed               y³ = −(t2·y² + t1·y + t0)
 --   spread                g = g0 + g1·y + g2·y²
-use mathlib.Core.Path.{_≡_, refl, sym, _∙_, ap, ap₂}
+use mathlib.Core.Path.{_≡_, refl, sym, _∙_, ap}
 use Prim.Native.Nat.{ℕ, zero, suc}
 use Rattle.algebra.specs.Ring.{CommRing, ops}
 use Rattle.algebra.proofs.Norm.{E-ops, nil, unit}
 use Rattle.algebra.proofs.Solve.{solve, _⊞_, _⊠_, ⊟_}
 use Rattle.algebra.proofs.Laws as L
 use Rattle.polynomial.specs.RingMap.{RingMap}
-use Rattle.curve.specs.CubicLaws.{Normal, normal-form, product}
+use Rattle.curve.specs.CubicLaws.{normal-form, product}
 use Rattle.curve.specs.Cubic.{Cubic, triple, component, embed, y, normal-path}
 
 scale-0 : (A : CommRing) (t0 t1 t2 a r0 r1 r2 : A .Car) → (product (ops A) (normal-form t0 t1 t2) (normal-form a (A .zero) (A .zero)) (normal-form r0 r1 r2)) .r0 ≡ A .mul a r0
@@ -180,4 +180,4 @@ module _ (A : CommRing) (t0 t1 t2 : A .Car) where
       (normal-path A t0 t1 t2
       (simp (component-triple-0, component-add, component-scale, component-embed-0, y-0, L.mul-zero, A .add-zero))
       (simp (component-triple-1, component-add, component-scale, component-embed-1, y-1, L.mul-zero, L.zero-add, A .add-zero, A .mul-one))
-      (simp (component-triple-2, component-add, component-scale, component-embed-2, y-2, L.mul-zero, L.zero-add, A .add-zero, A .mul-one)))
+      (simp (component-triple-2, component-add, component-scale, component-embed-2, y-2, L.mul-zero, L.zero-add, A .mul-one)))

@@ -6,7 +6,7 @@
 --   embed a               a as an element: the normal form a + 0·y + 0·y²
 --   y                     the element y
 --   normal-path           elements with the same three components are equal
-use mathlib.Core.Path.{_≡_, refl}
+use mathlib.Core.Path.{_≡_}
 use Prim.Native.Nat.{ℕ, zero, suc}
 use Rattle.algebra.specs.Ring.{CommRing, ops}
 use Rattle.curve.specs.CubicLaws.{Normal, normal-form, plus, product, comm-0, comm-1, comm-2, assoc-0, assoc-1, assoc-2, unit-0, unit-1, unit-2, distribute-0, distribute-1, distribute-2}

@@ -4,9 +4,8 @@
 --   product t a b      a·b = a.r0·b + y·(a.r1·b + y·(a.r2·b))
 -- Each is written once over Ops, and read at the ring and at the solver's expressions.
 use mathlib.Core.Path.{_≡_}
-use Prim.Native.Nat.{ℕ}
 use Rattle.algebra.specs.Ring.{Ops, CommRing, ops}
-use Rattle.algebra.proofs.Norm.{E, E-ops}
+use Rattle.algebra.proofs.Norm.{E-ops}
 use Rattle.algebra.proofs.Solve.{solve}
 
 pub record Normal (A : Type 0) : Type 0 where

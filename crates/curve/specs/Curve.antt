@@ -6,7 +6,6 @@
 --   Coordinate C       the coordinate ring
 --   x, y, constant c   the elements x, y and c
 --   at i j g           the coefficient of x^i·y^j in the normal form of g; 0 for j above 2
-use mathlib.Core.Path.{_≡_}
 use mathlib.Core.List.{List, [], _∷_}
 use Prim.Native.Nat.{ℕ}
 use Rattle.algebra.specs.Ring.{CommRing}

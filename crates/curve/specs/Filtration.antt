@@ -5,23 +5,21 @@
 --   below-gap          there is no monomial at a gap
 --   below-step         Below (n + 1) g and no coefficient at n give Below n g
 --   below-x            x raises pole numbers by 3
---   below-y, lead-y    y raises them by 4; the coefficient at the top is kept, or multiplied by −a0 at n ≡ 2 mod 3
-use mathlib.Core.Path.{_≡_, refl, sym, _∙_, ap, ap₂}
-use mathlib.Core.List.{List, [], _∷_}
-use mathlib.Core.Logic.{_⊎_, inl, inr}
-use Prim.Native.Nat.{ℕ, zero, suc, _+_, _*_, _%_, _≤_, _<_}
+--   below-y            y raises them by 4: what −(t2·y² + t1·y + t0) for y³ brings in is not higher
+use mathlib.Core.Path.{_≡_, sym, _∙_, ap, ap₂}
+use mathlib.Core.List.{[], _∷_}
+use Prim.Native.Nat.{ℕ, zero, suc, _+_, _≤_}
 use native.Mathlib.Omega.{arith}
 use native.Mathlib.Decide.{ℕ-discrete}
-use lib.Dec.{leb, le→leb, leb→le}
 use Rattle.algebra.specs.Ring.{CommRing}
 use Rattle.algebra.proofs.Laws as L
-use Rattle.ideal.specs.Poles.{IsGap, IsPole}
+use Rattle.ideal.specs.Poles.{IsGap}
 use Rattle.curve.specs.Curve.{Curve, Coordinate, x, y, constant, at}
-use Rattle.curve.specs.Back.{back-none, back-high, back-vanish, weigh-from, weigh, weigh-vanish}
+use Rattle.curve.specs.Back.{weigh-vanish}
 use Rattle.curve.specs.Coefficient.{at-ext, at-zero, at-add, at-neg, at-constant-mul, at-x-first, at-x-next, at-y-0, at-y-1, at-y-2}
-use Rattle.curve.specs.Pole.{pole, Located, place, gap, locate, pole-is-pole}
-use Rattle.curve.specs.Monomial.{coefficient, pick, twist}
-use Rattle.curve.specs.Term.{coefficient-pole, coefficient-gap, pick-true, pick-false}
+use Rattle.curve.specs.Pole.{pole, Located, place, gap, locate}
+use Rattle.curve.specs.Monomial.{coefficient}
+use Rattle.curve.specs.Term.{coefficient-pole, coefficient-gap}
 
 module _ {k : CommRing} (C : Curve k) where
   open CommRing k using (Car, zero as 𝟘, one as 𝟙, add as _+ₖ_, mul as _·ₖ_, neg as -ₖ_)
@@ -83,7 +81,6 @@ module _ {k : CommRing} (C : Curve k) where
       go zero j l h = at-x-first C j g
       go (suc i) j l h = at-x-next C i j g ∙ b .vanish i j l (omega arith)
 
-  -- what y³ brings in has lower pole numbers
   minus-zero : (a b : Car) → a ≡ 𝟘 → b ≡ 𝟘 → a +ₖ -ₖ b ≡ 𝟘
   minus-zero a b e f = cc (e, f, k .add-neg 𝟘)
 

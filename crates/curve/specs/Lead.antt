@@ -5,23 +5,22 @@
 --                      times that of g at n
 --   top-one top-y top-y-y top-x                1, y, y² and x times such an element are such
 use mathlib.Core.Path.{_≡_, refl, sym, _∙_, ap, ap₂, subst}
-use mathlib.Core.List.{List, [], _∷_}
-use mathlib.Core.Logic.{_⊎_, inl, inr}
-use Prim.Native.Nat.{ℕ, zero, suc, _+_, _*_, _%_, _≤_, _<_}
+use mathlib.Core.List.{[], _∷_}
+use mathlib.Core.Logic.{inl, inr}
+use Prim.Native.Nat.{ℕ, zero, suc, _+_, _%_, _≤_, _<_}
 use native.Mathlib.Omega.{arith}
 use native.Mathlib.Nat as N
-use lib.Dec.{T, leb, le→leb, leb→le}
+use lib.Dec.{leb, le→leb, leb→le}
 use Rattle.algebra.specs.Ring.{CommRing}
 use Rattle.algebra.proofs.Laws as L
-use Rattle.algebra.proofs.Solve.{solve, _⊞_, _⊠_, ⊟_}
-use Rattle.ideal.specs.Poles.{IsGap, IsPole}
-use Rattle.curve.specs.Curve.{Curve, Coordinate, x, y, constant, at}
-use Rattle.curve.specs.Back.{back, back-high, back-vanish, weigh-from, weigh, weigh-vanish}
-use Rattle.curve.specs.Coefficient.{at-one-0, at-one-x, at-one-y, at-y-0, at-y-1, at-y-2, constant-zero}
-use Rattle.curve.specs.Pole.{pole, x-power, y-power, pole-x, pole-y, Located, place, gap, locate}
-use Rattle.curve.specs.Monomial.{coefficient, pick, twist, power, monomial, mono}
-use Rattle.curve.specs.Term.{coefficient-pole, coefficient-gap, coefficient-zero, coefficient-add, coefficient-neg, coefficient-constant-mul, coefficient-x-high, pick-true, pick-false}
-use Rattle.curve.specs.Filtration.{Below, below-coefficient, below-zero, below-add, below-neg, below-constant-mul, below-more, below-none, below-step, below-gap, below-x, below-y}
+use Rattle.ideal.specs.Poles.{IsGap}
+use Rattle.curve.specs.Curve.{Curve, Coordinate, x, y, at}
+use Rattle.curve.specs.Back.{back-high, back-vanish, weigh, weigh-vanish}
+use Rattle.curve.specs.Coefficient.{at-y-0, at-y-1, at-y-2}
+use Rattle.curve.specs.Pole.{pole, Located, place, gap, locate}
+use Rattle.curve.specs.Monomial.{coefficient, pick, twist}
+use Rattle.curve.specs.Term.{coefficient-pole, coefficient-gap, coefficient-x-high, pick-true, pick-false}
+use Rattle.curve.specs.Filtration.{Below, below-coefficient, below-more, below-gap, below-x, below-y}
 
 module _ {k : CommRing} (C : Curve k) where
   open CommRing k using (Car, zero as 𝟘, one as 𝟙, add as _+ₖ_, mul as _·ₖ_, neg as -ₖ_)

@@ -1,5 +1,5 @@
 -- Normal monomials and coefficients by pole number. An element of the coordinate ring is a sequence of coefficients indexed by
--- pole numbers, 0 at the gaps. Example: with y³ as below, x²·y has pole number 10 and the one coefficient 1 there.
+-- pole numbers, 0 at the gaps. Example: x²·y + 5 has the coefficient 1 at 10, the coefficient 5 at 0, and 0 elsewhere.
 --   power R a n        aⁿ
 --   monomial i j       x^i·y^j
 --   mono n             the normal monomial of pole number n, where there is one

@@ -5,22 +5,21 @@
 --   below-some         every element has a bound of its pole numbers
 --   below-dec          it is decidable whether n is one
 --   poles K C nonzero  the pole numbers of the coordinate ring of C, where a0 ≢ 0
-use mathlib.Core.Path.{_≡_, refl, sym, _∙_, ap, ap₂, subst}
+use mathlib.Core.Path.{_≡_, sym, _∙_, ap}
 use mathlib.Core.Logic.{_⊎_, inl, inr}
-use Prim.Native.Nat.{ℕ, zero, suc, _+_, _*_, _-_, _%_, _≤_, _<_}
+use Prim.Native.Nat.{ℕ, zero, suc, _+_, _%_, _≤_}
 use native.Mathlib.Omega.{arith}
-use native.Mathlib.Nat as N
 use native.Mathlib.Decide.{decLe}
 use Rattle.algebra.specs.Ring.{CommRing, Field}
 use Rattle.algebra.proofs.Laws as L
 use Rattle.polynomial.specs.Poly.{coef}
 use Rattle.polynomial.proofs.Bound.{bound}
-use Rattle.ideal.specs.Poles.{Poles, IsGap, IsPole}
+use Rattle.ideal.specs.Poles.{Poles, IsPole}
 use Rattle.curve.specs.Curve.{Curve, Coordinate, constant, part, at}
-use Rattle.curve.specs.Coefficient.{at-constant-x, at-constant-y, constant-neg}
+use Rattle.curve.specs.Coefficient.{at-constant-x, at-constant-y}
 use Rattle.curve.specs.Pole.{pole}
 use Rattle.curve.specs.Monomial.{coefficient, twist, power, monomial, mono}
-use Rattle.curve.specs.Term.{coefficient-pole, coefficient-gap, coefficient-zero, coefficient-add, coefficient-neg, coefficient-constant-mul}
+use Rattle.curve.specs.Term.{coefficient-add, coefficient-constant-mul}
 use Rattle.curve.specs.Filtration.{Below, below-coefficient, below-zero, below-add, below-constant-mul, below-more, below-none, below-step, below-gap}
 use Rattle.curve.specs.Lead.{twist-one, twist-turn}
 use Rattle.curve.specs.Product.{below-mono, coefficient-mono, product-below, product-top}

@@ -7,18 +7,16 @@
 --   product-below, product-top         the product, as above
 --   mono-mul           mono m·mono n = twist m n·mono (m + n) and lower terms
 use mathlib.Core.Path.{_≡_, refl, sym, _∙_, ap, ap₂, subst, subst₂}
-use mathlib.Core.Logic.{_⊎_, inl, inr}
-use Prim.Native.Nat.{ℕ, zero, suc, _+_, _*_, _%_, _≤_, _<_}
+use Prim.Native.Nat.{ℕ, zero, suc, _+_, _*_, _≤_}
 use native.Mathlib.Omega.{arith}
 use native.Mathlib.Nat as N
 use Rattle.algebra.specs.Ring.{CommRing}
 use Rattle.algebra.proofs.Laws as L
-use Rattle.algebra.proofs.Laws.{sums, ring}
 use Rattle.algebra.proofs.Solve.{solve, _⊞_, _⊠_, ⊟_}
 use Rattle.ideal.specs.Poles.{IsGap, IsPole}
 use Rattle.curve.specs.Curve.{Curve, Coordinate, x, y, constant, at}
 use Rattle.curve.specs.Coefficient.{at-one-0, at-one-x, at-one-y, constant-zero}
-use Rattle.curve.specs.Pole.{pole, x-power, y-power, pole-x, pole-y, Located, place, gap, locate, gap-dec}
+use Rattle.curve.specs.Pole.{pole, pole-x, pole-y, Located, place, gap, locate, gap-dec}
 use Rattle.curve.specs.Monomial.{coefficient, twist, power, monomial, mono}
 use Rattle.curve.specs.Term.{coefficient-pole, coefficient-gap, coefficient-zero, coefficient-add, coefficient-neg, coefficient-constant-mul}
 use Rattle.curve.specs.Filtration.{Below, below-coefficient, below-zero, below-add, below-neg, below-constant-mul, below-more, below-none, below-step, below-gap}

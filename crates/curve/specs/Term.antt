@@ -7,22 +7,21 @@
 --   coefficient-x      x moves coefficients by 3; coefficient-x-low and coefficient-x-high are its two cases
 use mathlib.Core.Path.{_≡_, refl, sym, _∙_, ap, ap₂}
 use mathlib.Core.Bool.{Bool, true, false}
-use mathlib.Core.Logic.{_⊎_, inl, inr}
+use mathlib.Core.Logic.{inl, inr}
 use Prim.Native.Nat.{ℕ, zero, suc, _+_, _*_, _-_, _≤_, _<_}
 use native.Mathlib.Omega.{arith}
 use native.Mathlib.Decide.{decLe}
 use lib.Dec.{T, leb, le→leb, leb→le}
 use Rattle.algebra.specs.Ring.{CommRing}
 use Rattle.algebra.proofs.Laws as L
-use Rattle.polynomial.specs.Poly.{Poly, coef, poly}
+use Rattle.polynomial.specs.Poly.{Poly, coef}
 use Rattle.polynomial.proofs.Coef as P
 use Rattle.ideal.specs.Poles.{IsGap, IsPole}
-use Rattle.curve.specs.Cubic as Q
 use Rattle.curve.specs.Component as M
-use Rattle.curve.specs.Curve.{Curve, t0, t1, t2, Coordinate, x, y, constant, part, at}
+use Rattle.curve.specs.Curve.{Curve, t0, t1, t2, Coordinate, x, constant, part, at}
 use Rattle.curve.specs.Back.{back, back-low, back-high}
 use Rattle.curve.specs.Coefficient.{at-ext, at-zero, at-add, at-neg, at-constant-mul, at-x-first, at-x-next}
-use Rattle.curve.specs.Pole.{pole, x-power, y-power, pole-x, pole-y, Located, place, gap, locate, pole-is-pole}
+use Rattle.curve.specs.Pole.{pole, x-power, y-power, pole-x, pole-y, Located, place, gap, locate}
 use Rattle.curve.specs.Monomial.{coefficient, pick, vector}
 
 pub pick-true : {A : Type 0} (b : Bool) (u v : A) → T b → pick b u v ≡ u
