@@ -8,9 +8,8 @@
 --   cube-of, derivative-x-of, derivative-y-of      what cube, derivative_x and derivative_y return
 use mathlib.Core.Path.{_≡_, refl, sym, _∙_, ap, ap₂, subst}
 use mathlib.Core.List.{List, [], _∷_, _++_}
-use Prim.Native.Nat.{ℕ, zero, suc, _+_, _*_, _-_, _<_, _≤_}
+use Prim.Native.Nat.{ℕ, zero, suc, _+_, _-_, _<_, _≤_}
 use native.Mathlib.Omega.{arith}
-use lib.Dec.{lit≤}
 use lib.ListN.{length, getD, replicate, List·getD-eq-default}
 use lib.Seq.{getD-append-add}
 use Rattle.algebra.specs.Ring.{CommRing}
@@ -21,19 +20,19 @@ use Rattle.field.specs.Contract.{Is}
 use Rattle.ideal.proofs.Every.{Every}
 use Rattle.curve.specs.Curve.{Curve, Coordinate, y}
 use Rattle.curve.specs.Curve as K
-use Rattle.curve.specs.Back.{back, back-low, back-high, weigh, weigh-from}
+use Rattle.curve.specs.Back.{back-low, back-high, weigh, weigh-from}
 use Rattle.curve.specs.Coefficient.{at-ext, at-one-0, at-one-x, at-one-y, at-y-0, at-y-1, at-y-2}
 use Rattle.curve.specs.Pole.{pole}
 use Rattle.curve.specs.Monomial.{coefficient}
 use Rattle.curve.specs.Term.{coefficient-ext}
-use Rattle.nonsingular.specs.Derivative.{twice, thrice, four-times, vector-x, vector-y, derivative-x, derivative-y}
+use Rattle.nonsingular.specs.Derivative.{twice, thrice, vector-x, vector-y, derivative-x, derivative-y}
 use Rattle.nonsingular.proofs.Derivative.{coefficient-derivative-x, coefficient-derivative-y}
 use Rattle.vector.specs.Vector.{Vec, Top, at, res, element}
 use Rattle.vector.proofs.Loop.{zeros-at}
 use Rattle.vector.proofs.Element.{element-at, element-coefficient}
 use Rattle.vector.proofs.Monomial.{flat-0, flat-1, flat-2}
 use Rattle.triple.specs.declared.equation.Equation.{Equation}
-use Rattle.triple.specs.Equation.{curve-of, Coefficients, IsCube, DerivativeAsked, DerivativeX, DerivativeY}
+use Rattle.triple.specs.Equation.{curve-of, Coefficients, IsCube, DerivativeX, DerivativeY}
 
 abbrev pub Match : (p : ℕ) → List ℕ → List (Z p .Car) → Type 0
 Match p [] [] = Unit
