@@ -1,28 +1,28 @@
 -- What star knows of its triple, whose span J is an ideal. j is the class of the least degree d; d1 and d2 are the degrees of the next classes.
 --   least-of               the class of the least degree, by three comparisons
 --   degrees-of             the leads of J by the degrees
---   in-span, degree-pole, member-monic     each member is in J, monic of its degree
+--   in-span, member-monic, member-pole     each member is in J, monic of its degree
+--   least-element          the member of the class j is the least element of J
 --   least-small, first-small, second-small     bounds of the three degrees
 --   steps-of               the five pairs of d1 − d and d2 − d
 --   near-1, near-2         d1 is d + 1 or d + 4; d2 is d + 2 or d + 5 if it is not d + 8
 --   least-low              … and then d is at least 3
 --   y-asked                what star asks of y_multiples
-use mathlib.Core.Path.{_≡_, refl, sym, _∙_, ap, ap₂, subst}
+use mathlib.Core.Path.{_≡_, subst}
 use mathlib.Core.List.{List}
 use mathlib.Core.Logic.{_⊎_, inl, inr, ⊎-elim}
 use Prim.Native.Nat.{ℕ, zero, suc, _+_, _%_, _<_, _≤_}
 use native.Mathlib.Omega.{arith}
 use native.Mathlib.Decide.{decLe}
-use Rattle.algebra.specs.Ring.{CommRing}
-use Rattle.ideal.specs.Poles.{largest-gap, IsPole, HasPole, Monic}
+use Rattle.ideal.specs.Poles.{largest-gap, HasPole, Monic}
 use Rattle.ideal.specs.Reduced.{Least}
 use Rattle.ideal.proofs.Gaps.{pole-apart}
 use Rattle.ideal.proofs.Degree.{monic-pole, pole-number}
 use Rattle.ideal.proofs.Leads.{Lead}
-use Rattle.vector.specs.Vector.{Vec, at, row, element, width}
+use Rattle.vector.specs.Vector.{Vec, at, row, element}
 use Rattle.vector.specs.Contract.{YMultiplesAsked}
-use Rattle.triple.specs.Setting.{Setting, ring, poles-of}
-use Rattle.triple.specs.Triple.{Present, Full, Spanned}
+use Rattle.triple.specs.Setting.{Setting, poles-of}
+use Rattle.triple.specs.Triple.{Present, Spanned}
 use Rattle.triple.proofs.Element.{present-monic}
 use Rattle.triple.proofs.Members.{spanned-row}
 use Rattle.triple.proofs.Leads.{spanned-lead}

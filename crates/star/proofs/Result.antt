@@ -2,15 +2,14 @@
 --   given-of, posed-of     what star asks of functional and of star_11 … star_31
 --   starred-0 … starred-31 a divisor with the numbers of its kind's candidates is the star, where the degrees are those of the kind
 --   starred-by             … whichever the kind
-use mathlib.Core.Path.{_≡_, refl, sym, _∙_, ap, ap₂, subst}
+use mathlib.Core.Path.{_≡_, refl, sym, _∙_, ap, subst}
 use mathlib.Core.List.{List, [], _∷_}
-use mathlib.Core.Logic.{_⊎_, inl, inr, ⊎-elim}
-use Prim.Native.Nat.{ℕ, zero, suc, _+_, _*_, _-_, _%_, _<_, _≤_}
+use mathlib.Core.Logic.{⊎-elim}
+use Prim.Native.Nat.{ℕ, zero, suc, _+_, _%_, _<_, _≤_}
 use native.Mathlib.Omega.{arith}
-use native.Mathlib.Nat.{le-of-suc-le-suc}
-use Rattle.algebra.specs.Ring.{CommRing, Field}
+use Rattle.algebra.specs.Ring.{Field}
 use Rattle.field.specs.Residue.{Z, el}
-use Rattle.field.specs.Element.{el-zero, el-one}
+use Rattle.field.specs.Element.{el-zero}
 use Rattle.field.specs.Field.{F, prime-large}
 use Rattle.ideal.specs.Ideal.{Colon}
 use Rattle.ideal.specs.Poles.{largest-gap, IsPole}
@@ -25,8 +24,8 @@ use Rattle.divisor.specs.Kind.{Kind, k0, k11, k21, k22, k31, polynomials}
 use Rattle.divisor.proofs.Monomials.{mono-x, mono-y, mono-xx, mono-xy, mono-yy}
 use Rattle.divisor.proofs.Star.{Matched, star-recognised}
 use Rattle.vector.specs.Vector.{at, res, row, element, width}
-use Rattle.vector.specs.Contract.{RowsOf, YMultiples}
-use Rattle.triple.specs.Setting.{Setting, ring, poles-of}
+use Rattle.vector.specs.Contract.{YMultiples}
+use Rattle.triple.specs.Setting.{poles-of}
 use Rattle.triple.specs.Triple.{Spanned}
 use Rattle.basis.specs.Divisor.{numbers, residues, Shaped}
 use Rattle.basis.specs.declared.Divisor.{Divisor}
