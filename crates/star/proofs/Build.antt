@@ -3,13 +3,12 @@
 --   begun-start            1 at d + 5 and 0 elsewhere
 --   begun-next             the value at d + s, for f monic: the lead of mono s·f is twist s d, and c is its inverse
 --   begun-done             with the values up to d + 13 it is the functional of f
-use mathlib.Core.Path.{_≡_, refl, sym, _∙_, ap, ap₂, subst}
+use mathlib.Core.Path.{_≡_, _∙_, ap, ap₂}
 use mathlib.Core.List.{[], _∷_}
-use Prim.Native.Nat.{ℕ, zero, suc, _+_, _-_, _<_, _≤_}
+use Prim.Native.Nat.{ℕ, zero, suc, _+_, _<_, _≤_}
 use native.Mathlib.Omega.{arith}
 use native.Mathlib.Decide.{ℕ-discrete}
 use Rattle.algebra.specs.Ring.{CommRing}
-use Rattle.algebra.proofs.Laws as L
 use Rattle.algebra.proofs.Norm.{nil, unit}
 use Rattle.algebra.proofs.Solve.{solve-from, given, _⊞_, _⊠_, ⊟_}
 use Rattle.ideal.specs.Poles.{largest-gap}

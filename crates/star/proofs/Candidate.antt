@@ -1,11 +1,12 @@
 -- A candidate whose numbers solve the equations lies in the colon ideal (f : J).
 --   Scene                  an ideal J with a least element f and monic elements u and w of degrees d, d1 and d2, and the functional of f
---   shifted-below, shifted-lead        x^(h/3)·w has the degree d2 + h and the lead of w
+--   lead-1, lead-2, lead-5 J's leads d + 1, d + 2 and d + 5
 --   candidate-member       mono n + a4·y + a3·x + a0 is in (f : J)
---   drop-y, drop-x         a candidate without y, without x
-use mathlib.Core.Path.{_≡_, refl, sym, _∙_, ap, ap₂, subst}
+--   shifted-below, shifted-lead        x^i·g has the degree of g raised by 3·i, and the lead of g
+--   drop-y, drop-x, drop-both          candidates without y, without x, without both
+use mathlib.Core.Path.{_≡_, sym, _∙_, ap, subst}
 use mathlib.Core.Logic.{_⊎_, inl, inr}
-use Prim.Native.Nat.{ℕ, zero, suc, _+_, _*_, _-_, _/_, _%_, _<_, _≤_}
+use Prim.Native.Nat.{ℕ, zero, suc, _+_, _*_, _-_, _/_, _<_, _≤_}
 use native.Mathlib.Omega.{arith}
 use Rattle.algebra.specs.Ring.{CommRing, Field}
 use Rattle.algebra.proofs.Laws as L

@@ -6,10 +6,9 @@
 --   equation-w             … and a3 = −(a4·Λ(y·w) + Λ(mono n·w)) that with w
 --   equation-v             … and a0 = −(a3·Λ(x·v) + (a4·Λ(y·v) + Λ(mono n·v))) that with v
 --   no-y                   a4 is zero for n = 3
-use mathlib.Core.Path.{_≡_, refl, sym, _∙_, ap, ap₂, subst}
+use mathlib.Core.Path.{_≡_, sym, _∙_, ap, ap₂, subst}
 use mathlib.Core.List.{[], _∷_}
-use mathlib.Core.Logic.{inl, inr}
-use Prim.Native.Nat.{ℕ, zero, suc, _+_, _-_, _<_, _≤_}
+use Prim.Native.Nat.{ℕ, zero, suc, _+_, _<_, _≤_}
 use native.Mathlib.Omega.{arith}
 use Rattle.algebra.specs.Ring.{CommRing, Field}
 use Rattle.algebra.proofs.Laws as L

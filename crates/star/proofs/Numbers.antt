@@ -5,9 +5,8 @@
 --   term-one-is                        the constant
 use mathlib.Core.Path.{_≡_, refl, sym, _∙_, ap, ap₂}
 use mathlib.Core.List.{List}
-use Prim.Native.Nat.{ℕ, suc, _+_, _*_, _-_, _/_, _%_, _<_, _≤_}
+use Prim.Native.Nat.{ℕ, _+_, _-_, _%_, _<_, _≤_}
 use native.Mathlib.Omega.{arith}
-use Rattle.algebra.specs.Ring.{CommRing}
 use Rattle.algebra.proofs.Laws as L
 use Rattle.field.specs.Residue.{Z, el}
 use Rattle.field.specs.Contract.{Is}
@@ -18,7 +17,7 @@ use Rattle.curve.specs.Lead.{twist-one, twist-turn}
 use Rattle.vector.specs.Vector.{res, width}
 use Rattle.vector.specs.Contract.{RowsOf}
 use Rattle.star.specs.Functional.{apply}
-use Rattle.star.specs.Contract.{Unit-of, ValueAt, OppositeAsked, OppositeOf, YAsked, TermY, XAsked, TermX, OneAsked, TermOne}
+use Rattle.star.specs.Contract.{Unit-of, ValueAt, OppositeOf, TermY, TermX, TermOne}
 use Rattle.star.proofs.Pairing.{value-at-none}
 
 pub opposite-one : {p k m v r : ℕ} → m < 3 → Is p r (Z p .neg (el p v)) → OppositeOf p k m v r
