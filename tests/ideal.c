@@ -23,17 +23,6 @@ static int is_pole(unsigned n)
     return n != 1 && n != 2 && n != 5;
 }
 
-/* The exponents of the normal monomial with pole number n. */
-static unsigned y_exponent(unsigned n)
-{
-    return n % 3;
-}
-
-static unsigned x_exponent(unsigned n)
-{
-    return (n - 4 * y_exponent(n)) / 3;
-}
-
 static unsigned lead(const uint32_t *v)
 {
     unsigned n = WIDTH - 1;
@@ -42,60 +31,75 @@ static unsigned lead(const uint32_t *v)
     return n;
 }
 
-/* t[j][i] is the coefficient of x^i y^j; multiples of F are taken off until no y^3 or y^4 is left. */
-static void normal_form(const struct curve *k, uint32_t t[5][WIDTH], uint32_t *out)
+/* x^i times v, added to `out` t times. */
+static void add_shifted(const struct curve *k, uint32_t t, unsigned i, const uint32_t *v, uint32_t *out)
 {
-    for (unsigned j = 4; j >= 3; j--)
-        for (unsigned i = 0; i < WIDTH / 3; i++) {
-            uint32_t s = t[j][i];
-            for (int u = 0; s != 0 && u < TERMS; u++) {
-                uint32_t *at = &t[j - 3 + term_y[u]][i + term_x[u]];
-                *at = minus(k->p, *at, times(k->p, s, term(k, u)));
-            }
-        }
-    memset(out, 0, WIDTH * sizeof *out);
-    for (unsigned j = 0; j < 3; j++)
-        for (unsigned i = 0; i < WIDTH; i++)
-            if (t[j][i] != 0) {
-                require(3 * i + 4 * j < WIDTH, "an element is too long", NULL);
-                out[3 * i + 4 * j] = t[j][i];
-            }
+    unsigned m = lead(v);
+    require(m + 3 * i < WIDTH, "an element is too long", NULL);
+    for (unsigned n = 0; n <= m; n++)
+        if (v[n] != 0)
+            out[n + 3 * i] = (uint32_t)(((uint64_t)t * v[n] + out[n + 3 * i]) % k->p);
 }
 
+/* y times v: where that gives x^i y^3, it is replaced by what it equals modulo F. */
+static void multiply_y(const struct curve *k, const uint32_t *v, uint32_t *out)
+{
+    unsigned m = lead(v);
+    require(m + 4 < WIDTH, "an element is too long", NULL);
+    memset(out, 0, WIDTH * sizeof *out);
+    for (unsigned n = 0; n <= m; n++)
+        if (n % 3 != 2)
+            out[n + 4] = v[n];
+    for (unsigned n = 8; n <= m; n += 3)
+        for (int t = 1; v[n] != 0 && t < TERMS; t++) {
+            uint32_t *at = &out[n - 8 + 3 * term_x[t] + 4 * term_y[t]];
+            *at = minus(k->p, *at, times(k->p, v[n], term(k, t)));
+        }
+}
+
+/* The normal monomial with pole number n has y to the power n % 3. */
 static void multiply(const struct curve *k, const uint32_t *a, const uint32_t *b, uint32_t *out)
 {
-    uint32_t t[5][WIDTH] = {{0}};
-    unsigned m = lead(b);
-    for (unsigned n = 0; n < WIDTH; n++)
-        for (unsigned l = 0; a[n] != 0 && l <= m; l++)
-            if (b[l] != 0) {
-                uint32_t *at = &t[y_exponent(n) + y_exponent(l)][x_exponent(n) + x_exponent(l)];
-                *at = (uint32_t)(((uint64_t)a[n] * b[l] + *at) % k->p);
-            }
-    normal_form(k, t, out);
+    uint32_t by_y[3][WIDTH];
+    unsigned m = lead(a);
+    memcpy(by_y[0], b, sizeof by_y[0]);
+    multiply_y(k, by_y[0], by_y[1]);
+    multiply_y(k, by_y[1], by_y[2]);
+    memset(out, 0, WIDTH * sizeof *out);
+    for (unsigned n = 0; n <= m; n++)
+        if (a[n] != 0)
+            add_shifted(k, a[n], (n - 4 * (n % 3)) / 3, by_y[n % 3], out);
 }
 
 static void multiply_monomial(const struct curve *k, unsigned n, const uint32_t *b, uint32_t *out)
 {
-    uint32_t a[WIDTH] = {0};
-    a[n] = 1;
-    multiply(k, a, b, out);
+    uint32_t v[WIDTH], w[WIDTH];
+    memcpy(v, b, sizeof v);
+    for (unsigned j = 0; j < n % 3; j++) {
+        multiply_y(k, v, w);
+        memcpy(v, w, sizeof v);
+    }
+    memset(out, 0, WIDTH * sizeof *out);
+    add_shifted(k, 1, (n - 4 * (n % 3)) / 3, v, out);
 }
 
 /* ---- windows ---- */
 
-/* Multiplies by x and y as far as the window allows until nothing new comes. */
+/* Multiplies by x and y as far as the window allows until nothing new comes; each row once. */
 static void close(const struct curve *k, struct space *s)
 {
     uint32_t v[WIDTH];
+    uint8_t done[WIDTH] = {0};
     for (int grew = 1; grew;) {
         grew = 0;
         for (unsigned n = 0; n < s->width; n++)
-            for (unsigned by = 3; by <= 4; by++)
-                if (s->has[n] && n + by < s->width) {
+            if (s->has[n] && !done[n]) {
+                for (unsigned by = 3; by <= 4 && n + by < s->width; by++) {
                     multiply_monomial(k, by, s->row[n], v);
                     grew |= insert(s, v);
                 }
+                done[n] = 1;
+            }
     }
 }
 

@@ -11,7 +11,8 @@
    reduced         (J*)*
    record_of       the record of a reduced ideal
    refusal_of      the number of the refusal of a call, 0 if it is accepted
-   by_definition   what a call returns; its result buffer is filled */
+   answer_of       what an accepted call returns; its result buffer is filled
+   by_definition   both together */
 #ifndef INDEPENDENT_H
 #define INDEPENDENT_H
 #include "call.h"
@@ -42,6 +43,7 @@ size_t record_of(const struct curve *k, const struct ideal *a, uint8_t *record);
 
 struct curve curve_of(const uint8_t *record);
 int32_t refusal_of(const struct call *c);
+int32_t answer_of(const struct call *c);
 int32_t by_definition(const struct call *c);
 
 #endif

@@ -9,7 +9,7 @@
 #include "space.h"
 #include <string.h>
 
-enum { FIRST_WEIGHT = 24, LAST_WEIGHT = 48, MAX_X = 17, MAX_Y = 13 };
+enum { FIRST_WEIGHT = 24, LAST_WEIGHT = 42, MAX_X = 15, MAX_Y = 11 };
 
 static unsigned monomials, x_of[WIDTH], y_of[WIDTH], place[MAX_X][MAX_Y];
 
@@ -60,17 +60,19 @@ static int insert_multiple(struct space *s, unsigned n, unsigned i, unsigned j)
     return insert(s, v);
 }
 
+/* Each row is multiplied once; a row that comes below it is seen in the next round. */
 static void close(struct space *s, unsigned w)
 {
+    uint8_t done[WIDTH] = {0};
     for (int grew = 1; grew;) {
         grew = 0;
-        for (unsigned n = 0; n < s->width; n++) {
-            unsigned e = weight(x_of[n], y_of[n]);
-            if (s->has[n] && e + 3 <= w)
-                grew |= insert_multiple(s, n, 1, 0);
-            if (s->has[n] && e + 4 <= w)
-                grew |= insert_multiple(s, n, 0, 1);
-        }
+        for (unsigned n = 0; n < s->width; n++)
+            if (s->has[n] && !done[n]) {
+                unsigned e = weight(x_of[n], y_of[n]);
+                grew |= e + 3 <= w && insert_multiple(s, n, 1, 0);
+                grew |= e + 4 <= w && insert_multiple(s, n, 0, 1);
+                done[n] = 1;
+            }
     }
 }
 

@@ -57,7 +57,7 @@ int insert(struct space *s, const uint32_t *v)
     if (n == 0)
         return 0;
     uint32_t t = inverse(s->p, w[n - 1]);
-    for (unsigned i = 0; i < s->width; i++)
+    for (unsigned i = 0; i < WIDTH; i++)
         s->row[n - 1][i] = i < n ? times(s->p, t, w[i]) : 0;
     s->has[n - 1] = 1;
     return 1;

@@ -8,7 +8,7 @@
 #define SPACE_H
 #include <stdint.h>
 
-enum { WIDTH = 128 };
+enum { WIDTH = 96 };
 
 struct space {
     uint32_t p;
