@@ -111,7 +111,25 @@ const struct record *pick(const struct sample *s)
     return &s->record[random_below(s->records)];
 }
 
-/* The points, the zero class, then sums of what is there with a point, and negatives. */
+/* A record of random numbers that is a basis: such may have no point with coordinates in the field. Few numbers are, so
+   kind 31 is tried over the smallest fields only; the zero class if none is found. */
+static struct record found(const struct sample *s)
+{
+    static const uint32_t kinds[3] = {21, 22, 31};
+    uint32_t kind = kinds[random_below(s->k.p < 5 ? 3 : 2)], numbers[9];
+    struct record r;
+    for (int tries = 0; tries < 2000; tries++) {
+        for (int i = 0; i < 9; i++)
+            numbers[i] = random_below(s->k.p);
+        r.len = put_record(r.b, kind, numbers);
+        if (is_basis(&s->k, r.b))
+            return r;
+    }
+    r.len = put_record(r.b, C34_ZERO, NULL);
+    return r;
+}
+
+/* The points, the zero class, then sums of what is there with a point, negatives, and records found at small p. */
 static void fill_records(struct sample *s, unsigned records)
 {
     s->records = 0;
@@ -120,7 +138,7 @@ static void fill_records(struct sample *s, unsigned records)
     s->record[s->records].len = put_record(s->record[s->records].b, C34_ZERO, NULL);
     s->records++;
     while (s->records < records) {
-        struct record r = *pick(s);
+        struct record r = s->k.p < 12 && random_below(3) == 0 ? found(s) : *pick(s);
         if (s->points > 0 && random_below(4) > 0)
             r = sum_of(s, &r, &s->point[random_below(s->points)]);
         s->record[s->records++] = random_below(4) == 0 ? negative_of(s, &r) : r;
