@@ -230,11 +230,30 @@ static void run_lists(const struct sample *s)
     for (size_t n = C34_LIST_LIMIT - 8; n <= C34_LIST_LIMIT + 8; n++) {
         c.a = (struct slice){list, n};
         check(&c);
+        put16(list, 3);
+        check(&c);
+        put16(list, 4);
     }
     c.verb = COUNT;
     c.a.len = make_list(s, list);
     for (c.kind = 0; c.kind < 70000; c.kind += 1 + c.kind / 64)
         check(&c);
+}
+
+/* Points that differ in one byte only are not the same, whichever byte it is. */
+static void run_compare(void)
+{
+    static struct sample s;
+    for (int i = 0; i < 8; i++) {
+        uint32_t step = 1u << (8 * (i % 4)), x[3] = {1000, 1000, 7}, y[3] = {2000, 2000, 8};
+        (i < 4 ? x : y)[1] += step;
+        make_sample_through(&s, 2147483647, x, y, 4);
+        struct call c = {.verb = COMPARE, .curve = slice_of_curve(&s)};
+        c.a = slice_of_record(&s.point[0]);
+        c.b = slice_of_record(&s.point[1]);
+        check(&c);
+        require(by_library(&c) == 0, "two points are the same", &c);
+    }
 }
 
 /* A null pointer with length 0 is an empty slice; so is, for the archive itself, a pointer behind the last byte. */
@@ -268,6 +287,7 @@ int main(void)
         if (primes[i] == 5)
             run_headers(&s);
     }
+    run_compare();
     printf("guard: %ld calls between guard pages agree\n", calls);
     return 0;
 }

@@ -62,13 +62,11 @@ static void search_points(struct sample *s)
     }
 }
 
-/* Sets c0, c1 and c2 such that three random points are on the curve; 0 if these points are on a line. */
-static int through_three_points(struct curve *k, uint32_t x[3], uint32_t y[3])
+/* Sets c0, c1 and c2 such that three points are on the curve; 0 if these points are on a line. */
+static int through_three_points(struct curve *k, const uint32_t x[3], const uint32_t y[3])
 {
     uint32_t rows[4][8] = {{0}}, *row[4] = {rows[0], rows[1], rows[2], rows[3]};
     for (unsigned i = 0; i < 3; i++) {
-        x[i] = random_below(k->p);
-        y[i] = random_below(k->p);
         rows[0][i] = value(k, x[i], y[i], 3); /* all terms but c0, c1 x and c2 y */
         rows[1][i] = 1;
         rows[2][i] = x[i];
@@ -195,12 +193,22 @@ static void set_curve(struct sample *s, const struct curve *k)
     put_curve(s->curve, k->p, k->c);
 }
 
-void make_sample_on(struct sample *s, uint32_t p, const uint32_t c[9], unsigned records)
+static void random_coefficients(struct curve *k)
+{
+    int short_form = random_below(3) == 0; /* some coefficients 0, as in most papers */
+    for (unsigned i = 0; i < 9; i++)
+        k->c[i] = short_form && i > 4 && i != 7 ? 0 : random_below(k->p);
+}
+
+void make_sample_through(struct sample *s, uint32_t p, const uint32_t x[3], const uint32_t y[3], unsigned records)
 {
     struct curve k = {p, {0}};
-    memcpy(k.c, c, sizeof k.c);
+    do
+        random_coefficients(&k);
+    while (!through_three_points(&k, x, y) || !nonsingular(&k));
     set_curve(s, &k);
-    search_points(s);
+    for (unsigned i = 0; i < 3; i++)
+        add_point(s, x[i], y[i]);
     fill_records(s, records);
     fill_pairs(s);
 }
@@ -209,16 +217,19 @@ void make_sample(struct sample *s, uint32_t p, unsigned records)
 {
     struct curve k = {p, {0}};
     uint32_t x[3], y[3];
-    int short_form = random_below(3) == 0; /* some coefficients 0, as in most papers */
-    do {
-        for (unsigned i = 0; i < 9; i++)
-            k.c[i] = short_form && i > 4 && i != 7 ? 0 : random_below(p);
-    } while ((p > SEARCHED && !through_three_points(&k, x, y)) || !nonsingular(&k));
+    for (unsigned i = 0; i < 3; i++) {
+        x[i] = random_below(p);
+        y[i] = random_below(p);
+    }
+    if (p > SEARCHED) {
+        make_sample_through(s, p, x, y, records);
+        return;
+    }
+    do
+        random_coefficients(&k);
+    while (!nonsingular(&k));
     set_curve(s, &k);
-    if (p <= SEARCHED)
-        search_points(s);
-    for (unsigned i = 0; p > SEARCHED && i < 3; i++)
-        add_point(s, x[i], y[i]);
+    search_points(s);
     fill_records(s, records);
     fill_pairs(s);
 }

@@ -1,7 +1,7 @@
 /* Curves and divisors to test with, made by the independent implementation.
 
    sample        a nonsingular curve with some points and accepted records on it
-   make_sample   a random one: for small p the points are searched, for large p the curve is laid through random points
+   make_sample   a random one
    pick          a record of the sample
    pick_pair     two records of the sample, one time in three a degenerate pair */
 #ifndef SAMPLE_H
@@ -26,9 +26,10 @@ struct sample {
 struct slice slice_of_curve(const struct sample *s);
 struct slice slice_of_record(const struct record *r);
 
-/* The given curve, which must be nonsingular, with points found by search if p is small. */
-void make_sample_on(struct sample *s, uint32_t p, const uint32_t c[9], unsigned records);
+/* For a large p the curve is laid through three random points; for a small one points are searched. */
 void make_sample(struct sample *s, uint32_t p, unsigned records);
+/* A random curve through three points that are not on a line. */
+void make_sample_through(struct sample *s, uint32_t p, const uint32_t x[3], const uint32_t y[3], unsigned records);
 
 const struct record *pick(const struct sample *s);
 struct record sum_of(const struct sample *s, const struct record *a, const struct record *b);
