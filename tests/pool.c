@@ -18,7 +18,8 @@ static long sums, refusals, orders;
 
 /* ---- the list sum of a group ---- */
 
-static struct record list_sum(const struct sample *s, const struct pool *given, uint32_t group, int32_t (*by)(const struct call *))
+static struct record list_sum(const struct sample *s, const struct pool *given, uint32_t group,
+                              int32_t (*by)(const struct call *))
 {
     uint8_t list[MOST * C34_BUFFER];
     struct record r;
