@@ -231,7 +231,8 @@ module _ {p k : ℕ} {f : List ℕ} {t : List (List ℕ)} {d : List ℕ} (A : St
     pub starred-31 : d₁ ≡ d₀ + 1 → d₂ ≡ d₀ + 2 → {r : Divisor} → Made31 p k lam us ws d₀ d₁ d₂ r → Starred p (S A) t r
     starred-31 e e′ {r} m =
         subst (Starred p (S A) t) (sym (m .is))
-        (starred k31 (divisor-31 (m .f) (m .g) (m .h)) (shaped k31 (divisor-31 (m .f) (m .g) (m .h)) refl (m .f-solved .one-term .below, (m .f-solved .x-term .below, (m .f-solved .y-term .below, (m .g-solved .one-term .below, (m .g-solved .x-term .below, (m .g-solved .y-term .below, (m .h-solved .one-term .below, (m .h-solved .x-term .below, (m .h-solved .y-term .below, tt))))))))))
+        (starred k31 (divisor-31 (m .f) (m .g) (m .h)) (shaped k31 (divisor-31 (m .f) (m .g) (m .h)) refl
+        (m .f-solved .one-term .below, (m .f-solved .x-term .below, (m .f-solved .y-term .below, (m .g-solved .one-term .below, (m .g-solved .x-term .below, (m .g-solved .y-term .below, (m .h-solved .one-term .below, (m .h-solved .x-term .below, (m .h-solved .y-term .below, tt))))))))))
         (meets-one, (meets-x e′, (meets-y e, tt)))
         (and-all (mono-xx C) (pole-large (omega arith)) (omega arith) (m .f-solved), (and-all (mono-xy C) (pole-large (omega arith)) (omega arith) (m .g-solved), (and-all (mono-yy C) (pole-large (omega arith)) (omega arith) (m .h-solved), tt))))
 
