@@ -122,7 +122,10 @@ module _ (K : Field) (C : Curve (K .ring)) (nonzero : ¬ (C .a0 ≡ K .ring .zer
     pub lead-5 : Lead (poles K C nonzero) J (d + largest-gap)
     lead-5 = (v, v-in, v-pole)
 
-    module _ (n : ℕ) (a4 a3 a0 : Car) (e4 : d1 ≡ d + 1 → (c : Car) × (c ·ₖ twist C 4 (d + 1) ≡ 𝟙) × (a4 ≡ -ₖ (c ·ₖ apply C N lam (mono C n ⊗ u)))) (e3 : d2 ≡ d + 2 → a3 ≡ -ₖ (a4 ·ₖ apply C N lam (mono C 4 ⊗ w) +ₖ apply C N lam (mono C n ⊗ w))) (e0 : a0 ≡ -ₖ (a3 ·ₖ apply C N lam (mono C 3 ⊗ v) +ₖ (a4 ·ₖ apply C N lam (mono C 4 ⊗ v) +ₖ apply C N lam (mono C n ⊗ v)))) where
+    module _ (n : ℕ) (a4 a3 a0 : Car)
+        (e4 : d1 ≡ d + 1 → (c : Car) × (c ·ₖ twist C 4 (d + 1) ≡ 𝟙) × (a4 ≡ -ₖ (c ·ₖ apply C N lam (mono C n ⊗ u))))
+        (e3 : d2 ≡ d + 2 → a3 ≡ -ₖ (a4 ·ₖ apply C N lam (mono C 4 ⊗ w) +ₖ apply C N lam (mono C n ⊗ w)))
+        (e0 : a0 ≡ -ₖ (a3 ·ₖ apply C N lam (mono C 3 ⊗ v) +ₖ (a4 ·ₖ apply C N lam (mono C 4 ⊗ v) +ₖ apply C N lam (mono C n ⊗ v)))) where
       killed-1 : (d1 ≡ d + 1) ⊎ (d1 ≡ d + 4) → (¬ Lead (poles K C nonzero) J (d + 1)) ⊎ Killed K C nonzero N d J lam 1 (candidate C n a4 a3 a0)
       killed-1 (inr e) = inl (none-1 (poles K C nonzero) J (S .degrees) e)
       killed-1 (inl e) = inr (u, S .u-in, u-pole e, go (e4 e))

@@ -7,6 +7,7 @@ use mathlib.Core.List.{List, [], _∷_}
 use mathlib.Core.Logic.{⊎-elim}
 use Prim.Native.Nat.{ℕ, zero, suc, _+_, _%_, _<_, _≤_}
 use native.Mathlib.Omega.{arith}
+use lib.ListN.{replicate}
 use Rattle.algebra.specs.Ring.{CommRing, Field}
 use Rattle.field.specs.Residue.{Z, el}
 use Rattle.field.specs.Element.{el-zero}
@@ -20,7 +21,7 @@ use Rattle.curve.specs.Curve.{Curve, Coordinate, x, y, constant}
 use Rattle.curve.specs.Monomial.{coefficient, mono, twist}
 use Rattle.curve.specs.Filtration.{Below, coefficient-below}
 use Rattle.curve.proofs.Monic.{monic-coefficient}
-use Rattle.divisor.specs.Kind.{Kind, k0, k11, k21, k22, k31, polynomials}
+use Rattle.divisor.specs.Kind.{Kind, code, k0, k11, k21, k22, k31, polynomials}
 use Rattle.divisor.proofs.Monomials.{mono-x, mono-y, mono-xx, mono-xy, mono-yy}
 use Rattle.divisor.proofs.Star.{Matched, star-recognised}
 use Rattle.vector.specs.Vector.{at, res, row, element, width}
@@ -30,7 +31,7 @@ use Rattle.triple.specs.Triple.{Spanned}
 use Rattle.basis.specs.Divisor.{numbers, residues, Shaped}
 use Rattle.basis.specs.declared.Divisor.{Divisor}
 use Rattle.star.specs.Functional.{apply, candidate}
-use Rattle.star.specs.Contract.{StarAsked, Starred, LeastOf, Given, FunctionalOf, Posed, Solved, divisor-11, divisor-21, divisor-22, divisor-31, Made11, Made21, Made22, Made31, ByKind, is-31, is-21, is-22, is-11}
+use Rattle.star.specs.Contract.{StarAsked, Starred, LeastOf, Given, FunctionalOf, Posed, Solved, divisor-0, divisor-11, divisor-21, divisor-22, divisor-31, Made11, Made21, Made22, Made31, ByKind, is-31, is-21, is-22, is-11}
 use Rattle.star.specs.declared.Terms.{Terms}
 use Rattle.star.proofs.Equations.{no-y}
 use Rattle.star.proofs.Member.{all-members}
@@ -78,19 +79,31 @@ module _ {p k : ℕ} {f : List ℕ} {t : List (List ℕ)} {d : List ℕ} (A : St
   positive : 0 < p
   positive = omega (arith, prime-large p (S A .prime))
 
+  -- numbers past the kind's count
+  zeros : (n : ℕ) → Every (λ m. m < p) (replicate n 0)
+  zeros zero = tt
+  zeros (suc n) = (positive, zeros n)
+
+  shaped : (κ : Kind) (r : Divisor) → r .kind ≡ code κ → Every (λ n. n < p) (numbers r) → Shaped p κ r
+  shaped κ r e b = record { kind = e; below = below-each (numbers r) b positive }
+
   -- a divisor of the kind whose polynomials lie in the colon ideal
   starred : (κ : Kind) (r : Divisor) → Shaped p κ r → Matched K C (S A .nonzero) (Spanned (S A) t) κ d₀ → Every InStar (polynomials C κ (residues p r)) → Starred p (S A) t r
   starred κ r s m es =
       let (b, i) = star-recognised K C (S A .nonzero) κ (residues p r) (least-element A L) (member-pole A j (L .inside)) m es in
       record { kind = κ; based = record { shaped = s; basis = b }; star = i }
 
-  pub starred-0 : d₂ ≡ d₀ + 8 → Starred p (S A) t (record { kind = 0; n0 = 0; n1 = 0; n2 = 0; n3 = 0; n4 = 0; n5 = 0; n6 = 0; n7 = 0; n8 = 0 })
+  pub starred-0 : d₂ ≡ d₀ + 8 → Starred p (S A) t divisor-0
   starred-0 e =
-      starred k0 (record { kind = 0; n0 = 0; n1 = 0; n2 = 0; n3 = 0; n4 = 0; n5 = 0; n6 = 0; n7 = 0; n8 = 0 }) (record { kind = refl; below = below-each (0 ∷ 0 ∷ 0 ∷ 0 ∷ 0 ∷ 0 ∷ 0 ∷ 0 ∷ 0 ∷ []) (positive, (positive, (positive, (positive, (positive, (positive, (positive, (positive, (positive, tt))))))))) positive }) tt (all, tt)
+      starred k0 divisor-0 (shaped k0 divisor-0 refl (zeros 9)) tt (all, tt)
     where
       all : InStar 𝟏
       all =
-          all-members (poles-of (S A)) (member-pole A j (L .inside)) (A .ideal) (in-span A j (L .inside)) (degrees-lowest (poles-of (S A)) (Spanned (S A) t) (degrees-of A L)) (none-1 (poles-of (S A)) (Spanned (S A) t) (degrees-of A L) (go (steps-of A L))) (none-2 (poles-of (S A)) (Spanned (S A) t) (degrees-of A L) (omega arith)) (none-5 (poles-of (S A)) (Spanned (S A) t) (degrees-of A L) (omega arith)) 𝟏
+          all-members (poles-of (S A)) (member-pole A j (L .inside)) (A .ideal) (in-span A j (L .inside))
+          (degrees-lowest (poles-of (S A)) (Spanned (S A) t) (degrees-of A L))
+          (none-1 (poles-of (S A)) (Spanned (S A) t) (degrees-of A L) (go (steps-of A L)))
+          (none-2 (poles-of (S A)) (Spanned (S A) t) (degrees-of A L) (omega arith))
+          (none-5 (poles-of (S A)) (Spanned (S A) t) (degrees-of A L) (omega arith)) 𝟏
         where
           go : Steps d₀ d₁ d₂ → d₁ ≡ d₀ + 4
           go (steps-31 a b) = absurd (omega arith)
@@ -197,25 +210,30 @@ module _ {p k : ℕ} {f : List ℕ} {t : List (List ℕ)} {d : List ℕ} (A : St
     pub starred-11 : ¬ (d₁ ≡ d₀ + 1) → ¬ (d₂ ≡ d₀ + 2) → {r : Divisor} → Made11 p k lam us ws d₀ d₁ d₂ r → Starred p (S A) t r
     starred-11 u w {r} m =
         subst (Starred p (S A) t) (sym (m .is))
-        (starred k11 (divisor-11 (m .f) (m .g)) (record { kind = refl; below = below-each (numbers (divisor-11 (m .f) (m .g))) (m .f-solved .one-term .below, (m .g-solved .one-term .below, (positive, (positive, (positive, (positive, (positive, (positive, (positive, tt))))))))) positive }) (meets-one, tt)
+        (starred k11 (divisor-11 (m .f) (m .g)) (shaped k11 (divisor-11 (m .f) (m .g)) refl (m .f-solved .one-term .below, (m .g-solved .one-term .below, zeros 7)))
+        (meets-one, tt)
         (x-and-one (m .f-solved) (no-a4 (m .f-solved) u) w, (y-and-one (m .g-solved) u w, tt)))
 
     pub starred-21 : ¬ (d₁ ≡ d₀ + 1) → d₂ ≡ d₀ + 2 → {r : Divisor} → Made21 p k lam us ws d₀ d₁ d₂ r → Starred p (S A) t r
     starred-21 u e {r} m =
         subst (Starred p (S A) t) (sym (m .is))
-        (starred k21 (divisor-21 (m .f) (m .g)) (record { kind = refl; below = below-each (numbers (divisor-21 (m .f) (m .g))) (m .f-solved .one-term .below, (m .f-solved .x-term .below, (m .g-solved .one-term .below, (m .g-solved .x-term .below, (positive, (positive, (positive, (positive, (positive, tt))))))))) positive }) (meets-one, (meets-x e, tt))
+        (starred k21 (divisor-21 (m .f) (m .g)) (shaped k21 (divisor-21 (m .f) (m .g)) refl (m .f-solved .one-term .below, (m .f-solved .x-term .below, (m .g-solved .one-term .below, (m .g-solved .x-term .below, zeros 5)))))
+        (meets-one, (meets-x e, tt))
         (and-x-and-one (mono-y C) pole-4 (omega arith) (m .f-solved) u, (and-x-and-one (mono-xx C) (pole-large (omega arith)) (omega arith) (m .g-solved) u, tt)))
 
     pub starred-22 : d₁ ≡ d₀ + 1 → ¬ (d₂ ≡ d₀ + 2) → {r : Divisor} → Made22 p k lam us ws d₀ d₁ d₂ r → Starred p (S A) t r
     starred-22 e w {r} m =
         subst (Starred p (S A) t) (sym (m .is))
-        (starred k22 (divisor-22 (m .f) (m .g)) (record { kind = refl; below = below-each (numbers (divisor-22 (m .f) (m .g))) (m .f-solved .one-term .below, (m .g-solved .one-term .below, (m .g-solved .y-term .below, (positive, (positive, (positive, (positive, (positive, (positive, tt))))))))) positive }) (meets-one, (meets-y e, tt))
+        (starred k22 (divisor-22 (m .f) (m .g)) (shaped k22 (divisor-22 (m .f) (m .g)) refl (m .f-solved .one-term .below, (m .g-solved .one-term .below, (m .g-solved .y-term .below, zeros 6))))
+        (meets-one, (meets-y e, tt))
         (x-and-one (m .f-solved) (no-a4-x (m .f-solved) e) w, (and-y-and-one (mono-yy C) (pole-large (omega arith)) (omega arith) (m .g-solved) w, tt)))
 
     pub starred-31 : d₁ ≡ d₀ + 1 → d₂ ≡ d₀ + 2 → {r : Divisor} → Made31 p k lam us ws d₀ d₁ d₂ r → Starred p (S A) t r
     starred-31 e e′ {r} m =
         subst (Starred p (S A) t) (sym (m .is))
-        (starred k31 (divisor-31 (m .f) (m .g) (m .h)) (record { kind = refl; below = below-each (numbers (divisor-31 (m .f) (m .g) (m .h))) (m .f-solved .one-term .below, (m .f-solved .x-term .below, (m .f-solved .y-term .below, (m .g-solved .one-term .below, (m .g-solved .x-term .below, (m .g-solved .y-term .below, (m .h-solved .one-term .below, (m .h-solved .x-term .below, (m .h-solved .y-term .below, tt))))))))) positive }) (meets-one, (meets-x e′, (meets-y e, tt)))
+        (starred k31 (divisor-31 (m .f) (m .g) (m .h)) (shaped k31 (divisor-31 (m .f) (m .g) (m .h)) refl
+        (m .f-solved .one-term .below, (m .f-solved .x-term .below, (m .f-solved .y-term .below, (m .g-solved .one-term .below, (m .g-solved .x-term .below, (m .g-solved .y-term .below, (m .h-solved .one-term .below, (m .h-solved .x-term .below, (m .h-solved .y-term .below, tt))))))))))
+        (meets-one, (meets-x e′, (meets-y e, tt)))
         (and-all (mono-xx C) (pole-large (omega arith)) (omega arith) (m .f-solved), (and-all (mono-xy C) (pole-large (omega arith)) (omega arith) (m .g-solved), (and-all (mono-yy C) (pole-large (omega arith)) (omega arith) (m .h-solved), tt))))
 
     pub starred-by : {r : Divisor} → ByKind p k lam us ws d₀ d₁ d₂ r → Starred p (S A) t r
