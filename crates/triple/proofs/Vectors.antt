@@ -25,12 +25,12 @@ use Rattle.curve.specs.Coefficient.{at-ext, at-one-0, at-one-x, at-one-y, at-y-
 use Rattle.curve.specs.Pole.{pole}
 use Rattle.curve.specs.Monomial.{coefficient}
 use Rattle.curve.specs.Term.{coefficient-ext}
+use Rattle.curve.proofs.Monomial.{at-y-0-straight, at-y-1-straight, at-y-2-straight}
 use Rattle.nonsingular.specs.Derivative.{twice, thrice, vector-x, vector-y, derivative-x, derivative-y}
 use Rattle.nonsingular.proofs.Derivative.{coefficient-derivative-x, coefficient-derivative-y}
 use Rattle.vector.specs.Vector.{Vec, Top, at, res, element}
 use Rattle.vector.proofs.Loop.{zeros-at}
 use Rattle.vector.proofs.Element.{element-at, element-coefficient}
-use Rattle.vector.proofs.Monomial.{flat-0, flat-1, flat-2}
 use Rattle.triple.specs.declared.equation.Equation.{Equation}
 use Rattle.triple.specs.Equation.{curve-of, Coefficients, IsCube, DerivativeX, DerivativeY}
 
@@ -87,19 +87,19 @@ module _ {k : CommRing} (C : Curve k) where
   flat-one i = at-one-y C i 1
 
   flat-y : (i : ℕ) → K.at C i 2 (y C ⊗ 𝟏) ≡ 𝟘
-  flat-y i = flat-2 C 𝟏 flat-one i ∙ at-one-y C i 0
+  flat-y i = at-y-2-straight C 𝟏 flat-one i ∙ at-one-y C i 0
 
   abbrev square : El
   square = y C ⊗ (y C ⊗ 𝟏)
 
   square-0 : (i : ℕ) → K.at C i 0 square ≡ 𝟘
-  square-0 i = flat-0 C (y C ⊗ 𝟏) flat-y i
+  square-0 i = at-y-0-straight C (y C ⊗ 𝟏) flat-y i
 
   square-1 : (i : ℕ) → K.at C i 1 square ≡ 𝟘
-  square-1 i = flat-1 C (y C ⊗ 𝟏) flat-y i ∙ flat-0 C 𝟏 flat-one i
+  square-1 i = at-y-1-straight C (y C ⊗ 𝟏) flat-y i ∙ at-y-0-straight C 𝟏 flat-one i
 
   square-2 : (i : ℕ) → K.at C i 2 square ≡ K.at C i 0 𝟏
-  square-2 i = flat-2 C (y C ⊗ 𝟏) flat-y i ∙ flat-1 C 𝟏 flat-one i
+  square-2 i = at-y-2-straight C (y C ⊗ 𝟏) flat-y i ∙ at-y-1-straight C 𝟏 flat-one i
 
   weighed : (cs : List Car) (i : ℕ) → weigh k cs (λ n. K.at C n 2 square) i ≡ getD cs i 𝟘
   weighed = weigh-unit k (λ n. K.at C n 2 square) (square-2 0 ∙ at-one-0 C) (λ n. square-2 (suc n) ∙ at-one-x C n)
