@@ -1,0 +1,1 @@
+-- That the worked sums hold.

@@ -1,0 +1,1 @@
+-- The worked sums of document 01.
