@@ -1,1 +1,2 @@
 -- The worked sums of document 01.
+pub mod Table
