@@ -1,1 +1,4 @@
 -- That the worked sums hold.
+pub mod Vanish
+pub mod Tests
+pub mod Element
