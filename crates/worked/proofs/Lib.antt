@@ -2,3 +2,5 @@
 pub mod Vanish
 pub mod Tests
 pub mod Element
+pub mod Basis
+pub mod Accepted
