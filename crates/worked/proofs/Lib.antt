@@ -4,3 +4,4 @@ pub mod Tests
 pub mod Element
 pub mod Basis
 pub mod Accepted
+pub mod Link
