@@ -5,3 +5,4 @@ pub mod Element
 pub mod Basis
 pub mod Accepted
 pub mod Link
+pub mod Negative
