@@ -6,3 +6,4 @@ pub mod Basis
 pub mod Accepted
 pub mod Link
 pub mod Negative
+pub mod Rows
