@@ -7,3 +7,5 @@ pub mod Accepted
 pub mod Link
 pub mod Negative
 pub mod Rows
+pub mod Certificates
+pub mod Worked
