@@ -218,8 +218,16 @@ module _ (c : List ℕ) where
       where
         go : Shaped w (k .kind) → FirstCause (divisor-of c w) 9
         go s =
-            inr ((omega (arith, s .long), s .own),
-            inr ((k .kind, s .kind),
-            inr (λ κ e. subst (λ (q : Kind). length w ≡ size q) (same-kind w (k .kind) κ (s .kind) e) (s .long),
-            inr (λ κ e. subst (λ (q : Kind). (i : ℕ) → i < count q → number4 w (4 + 4 * i) < p) (same-kind w (k .kind) κ (s .kind) e) (s .low),
-            inl (λ b. whole-sound p n h (k .kind) (numbers-of w) (k .one) (both-right (shaped p w (k .kind)) _ t) (b (k .kind) (s .kind)), refl)))))
+            inr (
+              (omega (arith, s .long), s .own),
+              inr (
+                (k .kind, s .kind),
+                inr (
+                  λ κ e. subst (λ (q : Kind). length w ≡ size q) (same-kind w (k .kind) κ (s .kind) e) (s .long),
+                  inr (
+                    λ κ e. subst (λ (q : Kind). (i : ℕ) → i < count q → number4 w (4 + 4 * i) < p) (same-kind w (k .kind) κ (s .kind) e) (s .low),
+                    inl (λ b. whole-sound p n h (k .kind) (numbers-of w) (k .one) (both-right (shaped p w (k .kind)) _ t) (b (k .kind) (s .kind)), refl),
+                  ),
+                ),
+              ),
+            )

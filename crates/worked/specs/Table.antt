@@ -109,12 +109,14 @@ table =
     ∷ multiple E P 4 zero-class
     ∷ negative E P (divisor k22 (0 ∷ 1 ∷ 4 ∷ []))
     ∷ sum E (divisor k11 (4 ∷ 3 ∷ [])) (divisor k22 (0 ∷ 1 ∷ 4 ∷ []))
-      (divisor k31 (0 ∷ 4 ∷ 0 ∷ 0 ∷ 3 ∷ 0 ∷ 1 ∷ 2 ∷ 4 ∷ []))
+    (divisor k31 (0 ∷ 4 ∷ 0 ∷ 0 ∷ 3 ∷ 0 ∷ 1 ∷ 2 ∷ 4 ∷ []))
     ∷ divisor-refused E (divisor k11 (0 ∷ 0 ∷ [])) 9
+    ∷ divisor-refused E (divisor k21 (3 ∷ 0 ∷ 0 ∷ 0 ∷ [])) 9
     ∷ curve-refused (curve 2 1 0) 5
     ∷ curve-refused (curve 3 1 0) 5
     ∷ curve-accepted D
     ∷ point D 0 0 (divisor k11 (0 ∷ 0 ∷ []))
     ∷ double D (divisor k11 (0 ∷ 0 ∷ [])) (divisor k22 (0 ∷ 0 ∷ 0 ∷ []))
     ∷ multiple D (divisor k11 (0 ∷ 0 ∷ [])) 2 (divisor k22 (0 ∷ 0 ∷ 0 ∷ []))
+    ∷ multiple D (divisor k11 (0 ∷ 0 ∷ [])) 3 zero-class
     ∷ []
