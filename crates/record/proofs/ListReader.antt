@@ -5,7 +5,7 @@
 --   front-more         one record more
 --   front-refused      a record that is refused: the list is refused with its cause
 --   front-done         the end: the list is accepted
-use mathlib.Core.Path.{_≡_, refl, sym, ap, ap₂, _∙_, subst}
+use mathlib.Core.Path.{_≡_, refl, sym, ap, ap₂, _∙_}
 use mathlib.Core.List.{List, [], _∷_, _++_, append-nil}
 use Prim.Native.Nat.{ℕ, _+_, _-_, _<_, _≤_}
 use native.Mathlib.Omega.{arith}
@@ -14,7 +14,6 @@ use lib.Seq.{take-add, take-all}
 use Rattle.field.specs.Residue.{Z}
 use Rattle.curve.specs.Curve.{Curve}
 use Rattle.basis.specs.declared.Divisor.{Divisor}
-use Rattle.layout.specs.Layout.{number2}
 use Rattle.record.specs.declared.NextAnswer.the-variants as next
 use Rattle.record.specs.Cause.{FirstCause}
 use Rattle.record.specs.Listed.{joined, next-stages, AllAccepted, Listed, ListRefused}

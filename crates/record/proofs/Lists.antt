@@ -11,7 +11,7 @@
 --   listed-short       four bytes at least for each record
 use mathlib.Core.Path.{_≡_, refl, sym, ap, ap₂, _∙_, subst}
 use mathlib.Core.List.{List, [], _∷_, _++_, append-assoc, append-nil}
-use Prim.Native.Nat.{ℕ, _+_, _*_, _<_, _≤_}
+use Prim.Native.Nat.{ℕ, _*_, _<_, _≤_}
 use native.Mathlib.Omega.{arith}
 use lib.ListN.{length, take, drop, length-append, take-append-drop}
 use lib.Seq.{take-at, drop-at}
@@ -30,12 +30,12 @@ curve-sound s = (sound-must _ _, (sound-must _ _, (sound-must _ _, (sound-must _
 
 pub curve-numbered : (s : List ℕ) → AllNumbered (curve-stages s)
 curve-numbered s = (
-  numbered-must 1 _ (omega arith),
+  numbered-must _ _ (omega arith),
   (
-    numbered-must 2 _ (omega arith),
+    numbered-must _ _ (omega arith),
     (
-      numbered-must 1 _ (omega arith),
-      (numbered-must 3 _ (omega arith), (numbered-must 4 _ (omega arith), (numbered-must 5 _ (omega arith), tt))),
+      numbered-must _ _ (omega arith),
+      (numbered-must _ _ (omega arith), (numbered-must _ _ (omega arith), (numbered-must _ _ (omega arith), tt))),
     ),
   ),
 )
@@ -53,16 +53,16 @@ module _ (p : ℕ) (C : Curve (Z p)) where
 
   pub divisor-numbered : (s : List ℕ) → AllNumbered (divisor-stages p C s)
   divisor-numbered s = (
-    numbered-must 6 _ (omega arith),
+    numbered-must _ _ (omega arith),
     (
-      numbered-must 7 _ (omega arith),
-      (numbered-must 6 _ (omega arith), (numbered-must 8 _ (omega arith), (numbered-must 9 _ (omega arith), tt))),
+      numbered-must _ _ (omega arith),
+      (numbered-must _ _ (omega arith), (numbered-must _ _ (omega arith), (numbered-must _ _ (omega arith), tt))),
     ),
   )
 
   pub next-numbered : (s : List ℕ) → AllNumbered (next-stages p C s)
   next-numbered s =
-      (numbered-must 6 _ (omega arith), (numbered-must 6 _ (omega arith), divisor-numbered (take (number2 s 0) s)))
+      (numbered-must _ _ (omega arith), (numbered-must _ _ (omega arith), divisor-numbered (take (number2 s 0) s)))
 
   pub list-numbered : (s : List ℕ) (n : ℕ) → ListRefused p C s n → Numbered n
   list-numbered s n f = cause-numbered (next-stages p C (f .left)) (next-numbered (f .left)) n (f .cause)
