@@ -14,17 +14,16 @@ use Rattle.algebra.specs.Ring.{CommRing, Field}
 use Rattle.algebra.proofs.Norm.{E, num, nil, both}
 use Rattle.algebra.proofs.Sound.{head, tail}
 use Rattle.algebra.proofs.Solve.{_⊞_, _⊠_, ⊟_}
-use Rattle.prime.specs.Prime.{Prime}
-use Rattle.field.specs.Residue.{Z, el}
+use Rattle.field.specs.Residue.{el}
 use Rattle.field.specs.Field as field
 use Rattle.ideal.specs.Ideal.{Generated, Multiple, Colon, SameIdeal}
-use Rattle.ideal.specs.Poles.{largest-gap, Poles, HasPole}
+use Rattle.ideal.specs.Poles.{largest-gap, Poles}
 use Rattle.ideal.specs.Reduced.{Least, IsStar}
 use Rattle.ideal.proofs.Same.{same-sym, same-trans}
 use Rattle.ideal.proofs.Every.{Every, every-map}
 use Rattle.ideal.proofs.Degree.{monic-pole}
 use Rattle.ideal.proofs.Leads.{Lead, least-same}
-use Rattle.ideal.proofs.Generated.{generated-each, generated-in, products, products-source}
+use Rattle.ideal.proofs.Generated.{generated-each, generated-in, products-source}
 use Rattle.ideal.proofs.Colon.{colon-ideal, colon-same}
 use Rattle.curve.specs.Curve as K
 use Rattle.curve.specs.Curve.{Curve, Coordinate, constant}
@@ -33,7 +32,7 @@ use Rattle.divisor.specs.Kind.{Kind, k0, k11, k21, k22, k31, polynomials, Ideal
 use Rattle.divisor.proofs.Table.{degree, remaining-poles, kind-by, class-by}
 use Rattle.divisor.proofs.Members.{member, member-monic}
 use Rattle.divisor.proofs.Basis.{basis-lead, lead-basis}
-use Rattle.divisor.proofs.Star.{Matched, star-recognised}
+use Rattle.divisor.proofs.Star.{star-recognised}
 use Rattle.record.specs.Curve.{modulus, coefficient-number, equation, AcceptedCurve}
 use Rattle.record.specs.Divisor.{of-kind, number-at}
 use Rattle.record.proofs.Accepted.{Reads, ideal-reads}
@@ -42,7 +41,7 @@ use Rattle.calls.proofs.Class.{any-star}
 use Rattle.worked.specs.Table.{Point}
 use Rattle.worked.proofs.Tests.{both-left, both-right}
 use Rattle.worked.proofs.Vanish.{x, y, coefficients-of, at-xy, constant-number, agree, agree-sound}
-use Rattle.worked.proofs.Basis.{polynomials-xy, values, values-polynomials}
+use Rattle.worked.proofs.Basis.{values, values-polynomials}
 use Rattle.worked.proofs.Accepted.{numbers-of}
 use Rattle.worked.proofs.Link.{products-xy, values-products, polynomials-of, ideal-values}
 

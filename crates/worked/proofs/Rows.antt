@@ -4,24 +4,22 @@
 --   test r k               the test; means-sound: what it accepts holds
 --   answer                 what holds by the definitions, the call returns
 --   tests rs ks            the tests of all rows; shown: then each row holds, and its call answers accordingly
-use mathlib.Core.Path.{_≡_, refl, sym, _∙_, subst}
+use mathlib.Core.Path.{_≡_, refl, sym, subst}
 use mathlib.Core.Bool.{Bool, true}
 use mathlib.Core.List.{List, [], _∷_, _++_}
 use Prim.Native.Nat.{ℕ, suc, _+_, _≤_}
 use native.Mathlib.Omega.{arith}
 use lib.Dec.{T, eqb, eqb→eq}
 use lib.ListN.{length, drop, replicate}
-use lib.IntN.{ℤ, pos}
+use lib.IntN.{pos}
 use Rattle.algebra.proofs.Norm.{E, both}
 use Rattle.prime.specs.Prime.{Prime}
 use Rattle.ideal.proofs.Every.{Every}
-use Rattle.divisor.specs.Kind.{Kind}
 use Rattle.record.specs.Cause.{Passes, FirstCause}
 use Rattle.record.specs.Curve.{modulus, curve-stages, AcceptedCurve}
-use Rattle.record.specs.Divisor.{of-kind}
 use Rattle.record.proofs.Cause.{passes-append}
-use Rattle.calls.specs.Answer.{minus, Writes, written, Returns, refused, answered}
-use Rattle.calls.specs.Class.{Record, IsSum, IsListSum}
+use Rattle.calls.specs.Answer.{minus, written, refused, answered}
+use Rattle.calls.specs.Class.{IsSum, IsListSum}
 use Rattle.calls.specs.Call.{divisor-of, buffer, room}
 use Rattle.calls.proofs.Class.{Accepted}
 use Rattle.calls.proofs.Multiples.{list-single, multiple-add}

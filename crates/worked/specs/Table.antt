@@ -10,7 +10,6 @@ use mathlib.Core.List.{List, [], _∷_, _++_}
 use Prim.Native.Nat.{ℕ, _≤_}
 use lib.ListN.{length, drop}
 use lib.IntN.{ℤ, pos}
-use Rattle.algebra.specs.Ring.{CommRing}
 use Rattle.field.specs.Residue.{el}
 use Rattle.ideal.specs.Ideal.{Generated, SameIdeal}
 use Rattle.curve.specs.Curve.{x, y, constant}
