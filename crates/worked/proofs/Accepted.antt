@@ -7,7 +7,7 @@
 --   known c w k        the test; known-reads, known-record: the record w is accepted on the curve c
 --   Spoilt             certificate of a record that is no basis: its kind, and how 1 is made of its polynomials
 --   spoilt c w k       the test; spoilt-sound: the record w is refused with 9
-use mathlib.Core.Path.{_≡_, refl, sym, _∙_, subst}
+use mathlib.Core.Path.{_≡_, refl, sym, subst}
 use mathlib.Core.Logic.{inl, inr}
 use mathlib.Core.Bool.{Bool}
 use mathlib.Core.List.{List, [], _∷_, _++_}
@@ -70,7 +70,9 @@ abbrev ground : List ℕ → Bool
 ground c = both (form c) (both (prime (modulus c)) (both (leb (modulus c) limit) (below (modulus c) (coefficient-number c) 9)))
 
 abbrev pub smooth : List ℕ → Smooth → Bool
-smooth c k = both (ground c) (agree (modulus c) (coefficient-number c) unit (combine (by-x (coefficient-number c) ∷ by-y (coefficient-number c) ∷ []) (k .s ∷ k .t ∷ [])))
+smooth c k =
+    both (ground c)
+    (agree (modulus c) (coefficient-number c) unit (combine (by-x (coefficient-number c) ∷ by-y (coefficient-number c) ∷ []) (k .s ∷ k .t ∷ [])))
 
 -- the numbers of the certificate's basis
 abbrev given : Singular → ℕ → ℕ
@@ -144,7 +146,9 @@ module _ (c : List ℕ) where
       e = agree-sound p n unit (combine (by-x n ∷ by-y n ∷ []) (k .s ∷ k .t ∷ [])) (both-right (ground c) _ t)
 
       one-in : Generated R (derivative-x (equation c) ∷ derivative-y (equation c) ∷ []) (R .one)
-      one-in = subst (λ gs. Generated R gs (R .one)) derivatives (subst (Generated R (values p n (by-x n ∷ by-y n ∷ []))) (sym e) (generated-combine p n (by-x n ∷ by-y n ∷ []) (k .s ∷ k .t ∷ [])))
+      one-in =
+          subst (λ gs. Generated R gs (R .one)) derivatives
+          (subst (Generated R (values p n (by-x n ∷ by-y n ∷ []))) (sym e) (generated-combine p n (by-x n ∷ by-y n ∷ []) (k .s ∷ k .t ∷ [])))
 
       go : Ground c → AcceptedCurve c
       go g = ((g .long, g .own), (g .kind, (g .size, ((g .is-prime, g .small), (g .coefficients, (nonsingular (equation c) .1 one-in, tt))))))
@@ -214,8 +218,13 @@ module _ (c : List ℕ) where
     known-record k t = (bytes-sound w (both-left (bytes w) _ t), reads-accepted p (equation c) (k .kind) w (known-reads k t))
 
     pub spoilt-sound : (k : Spoilt) → AcceptedCurve c → T (spoilt c w k) → FirstCause (curve-stages c ++ divisor-of c w) 9
-    spoilt-sound k A t = first-append (curve-stages c) (divisor-of c w) 9 .1 (inr (A, go (shaped-sound w (k .kind) (both-left (shaped p w (k .kind)) _ t))))
+    spoilt-sound k A t =
+        first-append (curve-stages c) (divisor-of c w) 9 .1 (inr (A, go (shaped-sound w (k .kind) (both-left (shaped p w (k .kind)) _ t))))
       where
+        spoils : Shaped w (k .kind) → ¬ ((κ : Kind) → of-kind w κ → IsBasis (equation c) κ (number-at (modulus c) w))
+        spoils s b =
+            whole-sound p n h (k .kind) (numbers-of w) (k .one) (both-right (shaped p w (k .kind)) _ t) (b (k .kind) (s .kind))
+
         go : Shaped w (k .kind) → FirstCause (divisor-of c w) 9
         go s =
             inr (
@@ -225,8 +234,8 @@ module _ (c : List ℕ) where
                 inr (
                   λ κ e. subst (λ (q : Kind). length w ≡ size q) (same-kind w (k .kind) κ (s .kind) e) (s .long),
                   inr (
-                    λ κ e. subst (λ (q : Kind). (i : ℕ) → i < count q → number4 w (4 + 4 * i) < p) (same-kind w (k .kind) κ (s .kind) e) (s .low),
-                    inl (λ b. whole-sound p n h (k .kind) (numbers-of w) (k .one) (both-right (shaped p w (k .kind)) _ t) (b (k .kind) (s .kind)), refl),
+                    λ κ e. subst (λ (q : Kind). (i : ℕ) → i < count q → numbers-of w i < p) (same-kind w (k .kind) κ (s .kind) e) (s .low),
+                    inl (spoils s, refl),
                   ),
                 ),
               ),

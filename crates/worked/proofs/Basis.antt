@@ -7,12 +7,12 @@
 --   closed p n κ m qss                     the test that the span of the members is closed under y; basis-sound: then the record is a basis
 --   whole p n κ m qs                       the test that 1 is in the ideal of a record of a kind but 0; whole-sound: then it is no basis
 --   one-basis                              1 is not in the ideal of a basis of a kind but 0
-use mathlib.Core.Path.{_≡_, refl, sym, _∙_, ap, ap₂, subst}
+use mathlib.Core.Path.{_≡_, refl, sym, _∙_, ap, subst}
 use mathlib.Core.Bool.{Bool, true, false}
 use mathlib.Core.List.{List, [], _∷_}
-use Prim.Native.Nat.{ℕ, _≤_}
+use Prim.Native.Nat.{ℕ}
 use lib.Dec.{T}
-use Rattle.algebra.specs.Ring.{Ops, CommRing, Field, ops}
+use Rattle.algebra.specs.Ring.{Ops, CommRing, ops}
 use Rattle.algebra.proofs.Laws as L
 use Rattle.algebra.proofs.Norm.{E, num, nil, unit, both, E-ops}
 use Rattle.algebra.proofs.Sound.{number, head, tail}
@@ -24,7 +24,7 @@ use Rattle.ideal.specs.Ideal.{Generated}
 use Rattle.ideal.specs.Poles.{Poles}
 use Rattle.ideal.proofs.Every.{Every}
 use Rattle.ideal.proofs.Degree.{one-nonzero}
-use Rattle.ideal.proofs.Span.{InX, nought, Span}
+use Rattle.ideal.proofs.Span.{nought, Span}
 use Rattle.curve.specs.Curve as K
 use Rattle.curve.specs.Curve.{Curve, Coordinate, constant}
 use Rattle.curve.specs.Coefficient.{constant-zero, constant-one}
@@ -133,7 +133,8 @@ module _ (p : ℕ) (n : ℕ → ℕ) where
       → IdealOf (coefficients-of p n) κ (λ i. el p (m i)) (at-xy p n e)
   ideal-combine κ m e qs t =
       subst (λ gs. Generated R gs (at-xy p n e)) (values-polynomials κ m)
-      (subst (Generated R (values (polynomials-xy κ m))) (sym (agree-sound p n e (combine (polynomials-xy κ m) qs) t)) (generated-combine (polynomials-xy κ m) qs))
+      (subst (Generated R (values (polynomials-xy κ m))) (sym (agree-sound p n e (combine (polynomials-xy κ m) qs) t))
+      (generated-combine (polynomials-xy κ m) qs))
 
   -- 0 and 1 are made of the remaining monomials of every kind but 0
   made-zero : (ms : List (R .Car)) → MadeOf C ms (R .zero)
@@ -158,12 +159,15 @@ module _ (p : ℕ) (n : ℕ → ℕ) where
     span-combine [] qs t = refl
     span-combine (e ∷ es) [] t = (R .zero, at-xy p n (combine es []), nought refl, span-combine es [] tt, refl)
     span-combine (e ∷ es) (q ∷ qs) t =
-        (at-xy p n q, at-xy p n (combine es qs), inx-sound p n h q (both-left (only-x q) (all-x qs) t), span-combine es qs (both-right (only-x q) (all-x qs) t), refl)
+        let i = inx-sound p n h q (both-left (only-x q) (all-x qs) t) in
+        (at-xy p n q, at-xy p n (combine es qs), i, span-combine es qs (both-right (only-x q) (all-x qs) t), refl)
 
-    spans-sound : (ms bs : List E) (qss : List (List E)) → T (spans p n ms bs qss) → Every (λ b. Span P (values ms) (R .mul (K.y C) b)) (values bs)
+    spans-sound : (ms bs : List E) (qss : List (List E)) → T (spans p n ms bs qss)
+        → Every (λ b. Span P (values ms) (R .mul (K.y C) b)) (values bs)
     spans-sound ms [] qss t = tt
     spans-sound ms (b ∷ bs) qss t = (
-      subst (Span P (values ms)) (sym (agree-sound p n (y ⊠ b) (combine ms (head [] qss)) (both-right (all-x (head [] qss)) _ first))) (span-combine ms (head [] qss) (both-left (all-x (head [] qss)) _ first)),
+      subst (Span P (values ms)) (sym (agree-sound p n (y ⊠ b) (combine ms (head [] qss)) (both-right (all-x (head [] qss)) _ first)))
+          (span-combine ms (head [] qss) (both-left (all-x (head [] qss)) _ first)),
       spans-sound ms bs (tail qss) (both-right (both (all-x (head [] qss)) (agree p n (y ⊠ b) (combine ms (head [] qss)))) _ t),
     )
       where
@@ -175,15 +179,19 @@ module _ (p : ℕ) (n : ℕ → ℕ) where
       ν i = el p (m i)
 
       closed-sound : (qss : List (List E)) → T (closed p n κ m qss) → Closed (field.F p h) C (field.F p h .nontrivial) κ ν
-      closed-sound qss t = go (subst (λ ms. Every (λ b. Span P ms (R .mul (K.y C) b)) ms) (values-members κ m) (spans-sound (members-xy κ m) (members-xy κ m) qss t))
+      closed-sound qss t =
+          go
+          (subst (λ ms. Every (λ b. Span P ms (R .mul (K.y C) b)) ms) (values-members κ m) (spans-sound (members-xy κ m) (members-xy κ m) qss t))
         where
-          go : Every (λ b. Span P (members C κ ν) (R .mul (K.y C) b)) (members C κ ν) → Closed (field.F p h) C (field.F p h .nontrivial) κ ν
+          go : Every (λ b. Span P (members C κ ν) (R .mul (K.y C) b)) (members C κ ν)
+              → Closed (field.F p h) C (field.F p h .nontrivial) κ ν
           go (a, (b, (c, _))) = class-by (λ j. Span P (members C κ ν) (R .mul (K.y C) (member C κ ν j))) a b c
 
       pub basis-sound : (qss : List (List E)) → T (closed p n κ m qss) → IsBasis (coefficients-of p n) κ (λ i. el p (m i))
       basis-sound qss t = closed-basis (field.F p h) C (field.F p h .nontrivial) κ ν (closed-sound qss t)
 
-      pub one-basis : T (proper κ) → IsBasis (coefficients-of p n) κ (λ i. el p (m i)) → ¬ IdealOf (coefficients-of p n) κ (λ i. el p (m i)) (Coordinate (coefficients-of p n) .one)
+      pub one-basis : T (proper κ) → IsBasis (coefficients-of p n) κ (λ i. el p (m i))
+          → ¬ IdealOf (coefficients-of p n) κ (λ i. el p (m i)) (Coordinate (coefficients-of p n) .one)
       one-basis t b i = one-nonzero P (b (R .one) i (made-proper κ t))
 
       pub whole-sound : (qs : List E) → T (whole p n κ m qs) → ¬ IsBasis (coefficients-of p n) κ (λ i. el p (m i))

@@ -13,7 +13,7 @@ use native.Mathlib.Omega.{arith}
 use native.Mathlib.Nat.{zero-mod}
 use lib.Dec.{T, ltb, ltb→lt}
 use lib.ListN.{getD}
-use Rattle.algebra.specs.Ring.{CommRing, Field}
+use Rattle.algebra.specs.Ring.{CommRing}
 use Rattle.algebra.proofs.Laws as L
 use Rattle.algebra.proofs.Norm.{E, var, num, nil, unit, sum, prod, opp, pow, H, z, con, cons, both}
 use Rattle.algebra.proofs.Sound.{number, raise}
@@ -108,7 +108,8 @@ module _ (p : ℕ) (n : ℕ → ℕ) where
     number-constant (suc m) = P .below-add (one-pole P .upper) (number-constant m)
 
     inx-x-is : InX P (K.x C)
-    inx-x-is = subst (InX P) (R .mul-one (P .mono 3) ∙ poles-mono (field.F p h) C (field.F p h .nontrivial) 3 ∙ mono-x C) (inx-x P (inx-one P))
+    inx-x-is =
+        subst (InX P) (R .mul-one (P .mono 3) ∙ poles-mono (field.F p h) C (field.F p h .nontrivial) 3 ∙ mono-x C) (inx-x P (inx-one P))
 
     inx-neg : {a : R .Car} → InX P a → InX P (R .neg a)
     inx-neg {a} i = subst (InX P) (L.neg-mul R (R .one) a ∙ ap (R .neg) (L.one-mul R a)) (inx-scale P (neg-one-constant P) i)
@@ -162,12 +163,15 @@ module _ (p : ℕ) (n : ℕ → ℕ) where
 
     rows-zero : T (some p r0) ⊎ T (either (some p r1) (some p r2)) → ⊥
     unfolding at
-    rows-zero (inl t) = some-sound pos r0 t (λ i. sym (coef-ascending (Z p) (residues r0) i) ∙ sym (ap (λ f. coef (Z p) f i) (part-0 C _ _ _)) ∙ at-rows i 0)
+    rows-zero (inl t) =
+        some-sound pos r0 t (λ i. sym (ap (λ f. coef (Z p) f i) (part-0 C _ _ _) ∙ coef-ascending (Z p) (residues r0) i) ∙ at-rows i 0)
     rows-zero (inr t) = go (of-either (some p r1) (some p r2) t)
       where
         go : T (some p r1) ⊎ T (some p r2) → ⊥
-        go (inl s) = some-sound pos r1 s (λ i. sym (coef-ascending (Z p) (residues r1) i) ∙ sym (ap (λ f. coef (Z p) f i) (part-1 C _ _ _)) ∙ at-rows i 1)
-        go (inr s) = some-sound pos r2 s (λ i. sym (coef-ascending (Z p) (residues r2) i) ∙ sym (ap (λ f. coef (Z p) f i) (part-2 C _ _ _)) ∙ at-rows i 2)
+        go (inl s) =
+            some-sound pos r1 s (λ i. sym (ap (λ f. coef (Z p) f i) (part-1 C _ _ _) ∙ coef-ascending (Z p) (residues r1) i) ∙ at-rows i 1)
+        go (inr s) =
+            some-sound pos r2 s (λ i. sym (ap (λ f. coef (Z p) f i) (part-2 C _ _ _) ∙ coef-ascending (Z p) (residues r2) i) ∙ at-rows i 2)
 
   rows-sound : 0 < p → (e : E) (r0 r1 r2 : List ℕ) → T (nonzero-rows p n e r0 r1 r2) → ¬ (at-xy p n e ≡ R .zero)
   rows-sound pos e r0 r1 r2 t q =
@@ -197,10 +201,16 @@ module _ (p : ℕ) (n : ℕ → ℕ) where
   unfolding derivative-x
   by-x-is =
       rows-parts (n 1 ∷ (n 3 + n 3) ∷ (n 6 + n 6 + n 6) ∷ 4 ∷ []) (n 4 ∷ (n 7 + n 7) ∷ []) (n 8 ∷ [])
-      ∙ (λ i. of-parts C (ascending (Z p) (el p (n 1) ∷ two-of (n 3) i ∷ three-of (n 6) i ∷ four i ∷ [])) (ascending (Z p) (el p (n 4) ∷ two-of (n 7) i ∷ [])) (ascending (Z p) (el p (n 8) ∷ [])))
+      ∙ (λ i.
+      of-parts C (ascending (Z p) (el p (n 1) ∷ two-of (n 3) i ∷ three-of (n 6) i ∷ four i ∷ []))
+      (ascending (Z p) (el p (n 4) ∷ two-of (n 7) i ∷ []))
+      (ascending (Z p) (el p (n 8) ∷ [])))
 
   pub by-y-is : at-xy p n (by-y n) ≡ derivative-y (coefficients-of p n)
   unfolding derivative-y
   by-y-is =
       rows-parts (n 2 ∷ n 4 ∷ n 7 ∷ []) ((n 5 + n 5) ∷ (n 8 + n 8) ∷ []) (3 ∷ [])
-      ∙ (λ i. of-parts C (ascending (Z p) (el p (n 2) ∷ el p (n 4) ∷ el p (n 7) ∷ [])) (ascending (Z p) (two-of (n 5) i ∷ two-of (n 8) i ∷ [])) (ascending (Z p) (three i ∷ [])))
+      ∙ (λ i.
+      of-parts C (ascending (Z p) (el p (n 2) ∷ el p (n 4) ∷ el p (n 7) ∷ []))
+      (ascending (Z p) (two-of (n 5) i ∷ two-of (n 8) i ∷ []))
+      (ascending (Z p) (three i ∷ [])))

@@ -57,7 +57,8 @@ module _ (R : CommRing) where
       times : (r a : Car) → Matched α β J a → Matched α β J (r ⊗ a)
       times r a (h, m, e) = (r ⊗ h, j .times r m, L.mul-left-comm R α r a ∙ ap (λ t. r ⊗ t) e ∙ L.mul-left-comm R r β h)
 
-  pub equivalent-generated : (α β : Car) → ¬ (α ≡ zero) → ¬ (β ≡ zero) → (gs hs : List Car) → Every (Matched α β (Generated R hs)) gs → Every (Matched β α (Generated R gs)) hs
+  pub equivalent-generated : (α β : Car) → ¬ (α ≡ zero) → ¬ (β ≡ zero) → (gs hs : List Car)
+      → Every (Matched α β (Generated R hs)) gs → Every (Matched β α (Generated R gs)) hs
       → Equivalent R (Generated R gs) (Generated R hs)
   equivalent-generated α β nα nβ gs hs there back = record {
     a = α;
@@ -88,7 +89,8 @@ pub record Link : Type 0 where
 
 abbrev linked : ℕ → (ℕ → ℕ) → List E → List E → Link → Bool
 linked p n gs ws k =
-    both (both (nonzero p n (k .α)) (nonzero p n (k .β))) (both (matched p n (k .α) (k .β) gs ws (k .there)) (matched p n (k .β) (k .α) ws gs (k .back)))
+    both (both (nonzero p n (k .α)) (nonzero p n (k .β)))
+    (both (matched p n (k .α) (k .β) gs ws (k .there)) (matched p n (k .β) (k .α) ws gs (k .back)))
 
 -- the polynomials of the record w of kind κ
 abbrev pub polynomials-of : Kind → List ℕ → List E
@@ -114,14 +116,20 @@ module _ (p : ℕ) (n : ℕ → ℕ) where
   values-products [] hs = refl
   values-products (g ∷ gs) hs = values-append (map (λ h. g ⊠ h) hs) (products-xy gs hs) ∙ ap₂ _++_ (values-map g hs) (values-products gs hs)
 
-  matched-sound : (α β : E) (gs hs : List E) (qss : List (List E)) → T (matched p n α β gs hs qss) → Every (Matched R (at-xy p n α) (at-xy p n β) (Generated R (values p n hs))) (values p n gs)
+  matched-sound : (α β : E) (gs hs : List E) (qss : List (List E)) → T (matched p n α β gs hs qss)
+      → Every (Matched R (at-xy p n α) (at-xy p n β) (Generated R (values p n hs))) (values p n gs)
   matched-sound α β [] hs qss t = tt
   matched-sound α β (g ∷ gs) hs qss t = (
-    (at-xy p n (combine hs (head [] qss)), generated-combine p n hs (head [] qss), agree-sound p n (α ⊠ g) (β ⊠ combine hs (head [] qss)) (both-left (agree p n (α ⊠ g) (β ⊠ combine hs (head [] qss))) _ t)),
+    (
+      at-xy p n (combine hs (head [] qss)),
+      generated-combine p n hs (head [] qss),
+      agree-sound p n (α ⊠ g) (β ⊠ combine hs (head [] qss)) (both-left (agree p n (α ⊠ g) (β ⊠ combine hs (head [] qss))) _ t),
+    ),
     matched-sound α β gs hs (tail qss) (both-right (agree p n (α ⊠ g) (β ⊠ combine hs (head [] qss))) _ t),
   )
 
-  linked-sound : 0 < p → (gs ws : List E) (k : Link) → T (linked p n gs ws k) → Equivalent R (Generated R (values p n gs)) (Generated R (values p n ws))
+  linked-sound : 0 < p → (gs ws : List E) (k : Link) → T (linked p n gs ws k)
+      → Equivalent R (Generated R (values p n gs)) (Generated R (values p n ws))
   linked-sound pos gs ws k t =
       let u = both-left (both (nonzero p n (k .α)) (nonzero p n (k .β))) _ t in
       let v = both-right (both (nonzero p n (k .α)) (nonzero p n (k .β))) _ t in
@@ -133,9 +141,11 @@ module _ (p : ℕ) (n : ℕ → ℕ) where
 
 module _ (c : List ℕ) where
   -- the ideal of a record is what its polynomials generate, as expressions
-  pub ideal-values : (κ : Kind) (w : List ℕ) → of-kind w κ → SameIdeal (Ring c) (Ideal c w) (Generated (Ring c) (values (modulus c) (coefficient-number c) (polynomials-of κ w)))
+  pub ideal-values : (κ : Kind) (w : List ℕ) → of-kind w κ
+      → SameIdeal (Ring c) (Ideal c w) (Generated (Ring c) (values (modulus c) (coefficient-number c) (polynomials-of κ w)))
   ideal-values κ w e =
-      subst (λ gs. SameIdeal (Ring c) (Ideal c w) (Generated (Ring c) gs)) (sym (values-polynomials (modulus c) (coefficient-number c) κ (numbers-of w)))
+      subst (λ gs. SameIdeal (Ring c) (Ideal c w) (Generated (Ring c) gs))
+      (sym (values-polynomials (modulus c) (coefficient-number c) κ (numbers-of w)))
       (ideal-reads (modulus c) (equation c) κ w e)
 
   module _ (A : AcceptedCurve c) (a b w : List ℕ) (κa κb κw : Kind) (ea : of-kind a κa) (eb : of-kind b κb) (ew : of-kind w κw) where

@@ -4,24 +4,22 @@
 --   test r k               the test; means-sound: what it accepts holds
 --   answer                 what holds by the definitions, the call returns
 --   tests rs ks            the tests of all rows; shown: then each row holds, and its call answers accordingly
-use mathlib.Core.Path.{_≡_, refl, sym, _∙_, subst}
+use mathlib.Core.Path.{_≡_, refl, sym, subst}
 use mathlib.Core.Bool.{Bool, true}
 use mathlib.Core.List.{List, [], _∷_, _++_}
 use Prim.Native.Nat.{ℕ, suc, _+_, _≤_}
 use native.Mathlib.Omega.{arith}
 use lib.Dec.{T, eqb, eqb→eq}
 use lib.ListN.{length, drop, replicate}
-use lib.IntN.{ℤ, pos}
+use lib.IntN.{pos}
 use Rattle.algebra.proofs.Norm.{E, both}
 use Rattle.prime.specs.Prime.{Prime}
 use Rattle.ideal.proofs.Every.{Every}
-use Rattle.divisor.specs.Kind.{Kind}
 use Rattle.record.specs.Cause.{Passes, FirstCause}
 use Rattle.record.specs.Curve.{modulus, curve-stages, AcceptedCurve}
-use Rattle.record.specs.Divisor.{of-kind}
 use Rattle.record.proofs.Cause.{passes-append}
-use Rattle.calls.specs.Answer.{minus, Writes, written, Returns, refused, answered}
-use Rattle.calls.specs.Class.{Record, IsSum, IsListSum}
+use Rattle.calls.specs.Answer.{minus, written, refused, answered}
+use Rattle.calls.specs.Class.{IsSum, IsListSum}
 use Rattle.calls.specs.Call.{divisor-of, buffer, room}
 use Rattle.calls.proofs.Class.{Accepted}
 use Rattle.calls.proofs.Multiples.{list-single, multiple-add}
@@ -72,10 +70,12 @@ module _ (c : List ℕ) (A : AcceptedCurve c) where
   abbrev h : Prime (modulus c)
   h = A .1 .1 .1 .0 .0
 
-  added-sound : (a b w : List ℕ) (ka kb kw : Known) (k : Link) → T (known c a ka) → T (known c b kb) → T (added c a b w ka kb kw k) → IsSum c a b w
+  added-sound : (a b w : List ℕ) (ka kb kw : Known) (k : Link) → T (known c a ka) → T (known c b kb) → T (added c a b w ka kb kw k)
+      → IsSum c a b w
   added-sound a b w ka kb kw k ta tb t =
       let tw = both-left (known c w kw) _ t in
-      sum-sound c A a b w (ka .kind) (kb .kind) (kw .kind) (known-reads c h a ka ta .kind) (known-reads c h b kb tb .kind) (known-reads c h w kw tw .kind)
+      sum-sound c A a b w (ka .kind) (kb .kind) (kw .kind)
+      (known-reads c h a ka ta .kind) (known-reads c h b kb tb .kind) (known-reads c h w kw tw .kind)
       (known-record c h w kw tw) k (both-right (known c w kw) _ t)
 
   one-more : (a : List ℕ) (ka : Known) → T (known c a ka) → (m : ℕ) (u : List ℕ) (ku : Known) (w : List ℕ) (kw : Known) (k : Link)
@@ -102,14 +102,16 @@ means-sound (point c a b w) k t =
     let A = curve-sound c (k .0) (both-left (smooth c (k .0)) _ t) in
     let t₁ = both-right (smooth c (k .0)) _ t in
     let tw = both-left (known c w (k .1)) _ t₁ in
-    (A, known-record c (h c A) w (k .1) tw, point-sound c a b (k .1 .kind) w (known-reads c (h c A) w (k .1) tw .kind) (both-right (known c w (k .1)) _ t₁))
+    let kind = known-reads c (h c A) w (k .1) tw .kind in
+    (A, known-record c (h c A) w (k .1) tw, point-sound c a b (k .1 .kind) w kind (both-right (known c w (k .1)) _ t₁))
 means-sound (sum c a b w) k t =
     let A = curve-sound c (k .0) (both-left (smooth c (k .0)) _ t) in
     let t₁ = both-right (smooth c (k .0)) _ t in
     let ta = both-left (known c a (k .1)) _ t₁ in
     let t₂ = both-right (known c a (k .1)) _ t₁ in
     let tb = both-left (known c b (k .2)) _ t₂ in
-    (A, known-record c (h c A) a (k .1) ta, known-record c (h c A) b (k .2) tb, added-sound c A a b w (k .1) (k .2) (k .3) (k .4) ta tb (both-right (known c b (k .2)) _ t₂))
+    let s = added-sound c A a b w (k .1) (k .2) (k .3) (k .4) ta tb (both-right (known c b (k .2)) _ t₂) in
+    (A, known-record c (h c A) a (k .1) ta, known-record c (h c A) b (k .2) tb, s)
 means-sound (double c a w) k t =
     let A = curve-sound c (k .0) (both-left (smooth c (k .0)) _ t) in
     let t₁ = both-right (smooth c (k .0)) _ t in
@@ -121,7 +123,11 @@ means-sound (negative c a w) k t =
     let ta = both-left (known c a (k .1)) _ t₁ in
     let t₂ = both-right (known c a (k .1)) _ t₁ in
     let tw = both-left (known c w (k .2)) _ t₂ in
-    (A, known-record c (h c A) a (k .1) ta, negative-sound c A a w (k .1 .kind) (k .2 .kind) (known-reads c (h c A) a (k .1) ta) (known-reads c (h c A) w (k .2) tw .kind) (known-record c (h c A) w (k .2) tw) (k .3) (both-right (known c w (k .2)) _ t₂))
+    let reads = known-reads c (h c A) a (k .1) ta in
+    let kind = known-reads c (h c A) w (k .2) tw .kind in
+    let record-w = known-record c (h c A) w (k .2) tw in
+    let s = negative-sound c A a w (k .1 .kind) (k .2 .kind) reads kind record-w (k .3) (both-right (known c w (k .2)) _ t₂) in
+    (A, known-record c (h c A) a (k .1) ta, s)
 means-sound (multiple c a n w) k t =
     let A = curve-sound c (k .0) (both-left (smooth c (k .0)) _ t) in
     let t₁ = both-right (smooth c (k .0)) _ t in
@@ -130,11 +136,14 @@ means-sound (multiple c a n w) k t =
     let e : n ≡ 2 + length (k .2) = eqb→eq n (2 + length (k .2)) (both-left (eqb n (2 + length (k .2))) _ t₂) in
     let e′ : 1 + 1 + length (k .2) ≡ n = omega arith in
     let r = known-record c (h c A) a (k .1) ta in
-    (A, r, subst (λ (i : ℕ). IsListSum c (replicate i a) w) e′ (chain-sound c A a (k .1) ta 1 a (k .1) (k .2) w (k .3) (k .4) ta (list-single c A a r) (both-right (eqb n (2 + length (k .2))) _ t₂)))
+    let t₃ = both-right (eqb n (2 + length (k .2))) _ t₂ in
+    let s = chain-sound c A a (k .1) ta 1 a (k .1) (k .2) w (k .3) (k .4) ta (list-single c A a r) t₃ in
+    (A, r, subst (λ (i : ℕ). IsListSum c (replicate i a) w) e′ s)
 means-sound (divisor-refused c a n) k t =
     let A = curve-sound c (k .0) (both-left (smooth c (k .0)) _ t) in
     let t₁ = both-right (smooth c (k .0)) _ t in
-    subst (FirstCause (curve-stages c ++ divisor-of c a)) (sym (eqb→eq n 9 (both-left (eqb n 9) _ t₁))) (spoilt-sound c (h c A) a (k .1) A (both-right (eqb n 9) _ t₁))
+    subst (FirstCause (curve-stages c ++ divisor-of c a)) (sym (eqb→eq n 9 (both-left (eqb n 9) _ t₁)))
+    (spoilt-sound c (h c A) a (k .1) A (both-right (eqb n 9) _ t₁))
 means-sound (curve-refused c n) k t =
     subst (FirstCause (curve-stages c)) (sym (eqb→eq n 5 (both-left (eqb n 5) _ t))) (singular-sound c k (both-right (eqb n 5) _ t))
 means-sound (curve-accepted c) k t = curve-sound c k t

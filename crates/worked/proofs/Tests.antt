@@ -7,11 +7,10 @@ use mathlib.Core.Path.{_≡_, sym, ap, subst}
 use mathlib.Core.Bool.{Bool, true, false}
 use mathlib.Core.Logic.{_⊎_, inl, inr}
 use mathlib.Core.List.{List, [], _∷_}
-use Prim.Native.Nat.{ℕ, zero, suc, _%_, _≤_, _<_}
+use Prim.Native.Nat.{ℕ, zero, suc, _%_, _<_}
 use native.Mathlib.Decide.{ℕ-discrete}
 use native.Mathlib.Omega.{arith}
 use lib.Dec.{T, leb, ltb, leb→le, ltb→lt}
-use lib.ListN.{getD}
 use Rattle.algebra.proofs.Norm.{both}
 use Rattle.prime.specs.Prime.{Prime}
 use Rattle.layout.specs.Layout.{Bytes}
@@ -75,4 +74,8 @@ abbrev pub prime : ℕ → Bool
 prime p = both (leb 2 p) (undivided p p)
 
 pub prime-sound : (p : ℕ) → T (prime p) → Prime p
-prime-sound p t = record { two-le = leb→le 2 p (both-left (leb 2 p) (undivided p p) t); only = undivided-sound p p (both-right (leb 2 p) (undivided p p) t) }
+prime-sound p t =
+    record {
+      two-le = leb→le 2 p (both-left (leb 2 p) (undivided p p) t);
+      only = undivided-sound p p (both-right (leb 2 p) (undivided p p) t);
+    }

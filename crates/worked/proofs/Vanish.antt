@@ -8,15 +8,15 @@
 --   vanishes p n e     the test that e is zero; vanish-sound: then it is
 --   agree p n e e′     the test that e and e′ are equal; agree-sound
 --   divide             division of a normal form by the cubic: quotient and rest
-use mathlib.Core.Path.{_≡_, refl, sym, _∙_, ap, ap₂}
+use mathlib.Core.Path.{_≡_, sym, _∙_, ap, ap₂}
 use mathlib.Core.Bool.{Bool}
-use mathlib.Core.List.{List, [], _∷_}
-use Prim.Native.Nat.{ℕ, zero, suc, _+_, _/_}
+use mathlib.Core.List.{[], _∷_}
+use Prim.Native.Nat.{ℕ, zero, suc, _/_}
 use native.Mathlib.Omega.{arith}
 use lib.Dec.{T}
 use Rattle.algebra.specs.Ring.{CommRing, ops}
 use Rattle.algebra.proofs.Laws as L
-use Rattle.algebra.proofs.Norm.{E, var, num, nil, unit, sum, prod, opp, H, z, con, cons, plus, minus, times, norm, is-zero, E-ops}
+use Rattle.algebra.proofs.Norm.{E, var, num, nil, unit, H, z, con, cons, plus, minus, times, norm, is-zero, E-ops}
 use Rattle.algebra.proofs.Sound.{number, value, same-value}
 use Rattle.algebra.proofs.Solve.{_⊞_, _⊠_, ⊟_}
 use Rattle.field.specs.Residue.{Z, el}
@@ -128,7 +128,9 @@ module _ (p : ℕ) (n : ℕ → ℕ) where
 
   on-curve : at-xy (F n) ≡ R .zero
   on-curve =
-      sym (λ i. F-at (ops R) (K.x C) (K.y C) (constant-one C i) (c (n 0) i) (c (n 1) i) (c (n 2) i) (c (n 3) i) (c (n 4) i) (c (n 5) i) (c (n 6) i) (c (n 7) i) (c (n 8) i))
+      sym (λ i.
+      F-at (ops R) (K.x C) (K.y C) (constant-one C i) (c (n 0) i) (c (n 1) i) (c (n 2) i) (c (n 3) i) (c (n 4) i) (c (n 5) i) (c (n 6) i)
+      (c (n 7) i) (c (n 8) i))
       ∙ curve-equation C
 
   p-zero : number R p ≡ R .zero

@@ -4,13 +4,13 @@
 --   Row                a worked sum: the curve's bytes c, the inputs, the result w or the number n of the refusal
 --   Means r            what it says by the definitions of a sum, of a negative and so on, and of a refusal
 --   Answer r           … and what the call then returns and leaves, whichever way it is carried out
+--   E, one-two, P, D   the curves and points that they speak of
 --   table              the starred sums, in the order of document 01
 use mathlib.Core.Path.{_≡_}
 use mathlib.Core.List.{List, [], _∷_, _++_}
 use Prim.Native.Nat.{ℕ, _≤_}
 use lib.ListN.{length, drop}
 use lib.IntN.{ℤ, pos}
-use Rattle.algebra.specs.Ring.{CommRing}
 use Rattle.field.specs.Residue.{el}
 use Rattle.ideal.specs.Ideal.{Generated, SameIdeal}
 use Rattle.curve.specs.Curve.{x, y, constant}
@@ -79,9 +79,12 @@ Answer (divisor-refused c a n) = Returns-just (CheckDivisor c a) (minus n)
 Answer (curve-refused c n) = Returns-just (CheckCurve c) (minus n)
 Answer (curve-accepted c) = Returns-just (CheckCurve c) (pos 1)
 
--- Curve E: p = 5, y³ + x⁴ + 1. P is (0, 4).
+-- Curve E: p = 5, y³ + x⁴ + 1. The point (1, 2) is given in bytes; P is (0, 4).
 abbrev pub E : List ℕ
 E = curve 5 1 0
+
+abbrev pub one-two : List ℕ
+one-two = 0x0C ∷ 0x00 ∷ 0x0B ∷ 0x00 ∷ 0x04 ∷ 0x00 ∷ 0x00 ∷ 0x00 ∷ 0x03 ∷ 0x00 ∷ 0x00 ∷ 0x00 ∷ []
 
 abbrev pub P : List ℕ
 P = divisor k11 (0 ∷ 1 ∷ [])
@@ -95,12 +98,12 @@ zero-class = divisor k0 []
 
 abbrev pub table : List Row
 table =
-    point E 1 2 (0x0C ∷ 0x00 ∷ 0x0B ∷ 0x00 ∷ 0x04 ∷ 0x00 ∷ 0x00 ∷ 0x00 ∷ 0x03 ∷ 0x00 ∷ 0x00 ∷ 0x00 ∷ [])
+    point E 1 2 one-two
     ∷ point E 2 2 (divisor k11 (3 ∷ 3 ∷ []))
     ∷ point E 3 2 (divisor k11 (2 ∷ 3 ∷ []))
     ∷ point E 4 2 (divisor k11 (1 ∷ 3 ∷ []))
     ∷ point E 0 4 P
-    ∷ sum E (divisor k11 (4 ∷ 3 ∷ [])) (divisor k11 (3 ∷ 3 ∷ [])) (divisor k21 (3 ∷ 0 ∷ 2 ∷ 2 ∷ []))
+    ∷ sum E one-two (divisor k11 (3 ∷ 3 ∷ [])) (divisor k21 (3 ∷ 0 ∷ 2 ∷ 2 ∷ []))
     ∷ sum E (divisor k21 (3 ∷ 0 ∷ 2 ∷ 2 ∷ [])) (divisor k11 (2 ∷ 3 ∷ [])) (divisor k22 (1 ∷ 4 ∷ 2 ∷ []))
     ∷ sum E (divisor k22 (1 ∷ 4 ∷ 2 ∷ [])) (divisor k11 (1 ∷ 3 ∷ [])) zero-class
     ∷ double E P (divisor k21 (1 ∷ 0 ∷ 0 ∷ 0 ∷ []))
@@ -108,8 +111,7 @@ table =
     ∷ multiple E P 3 (divisor k22 (0 ∷ 1 ∷ 4 ∷ []))
     ∷ multiple E P 4 zero-class
     ∷ negative E P (divisor k22 (0 ∷ 1 ∷ 4 ∷ []))
-    ∷ sum E (divisor k11 (4 ∷ 3 ∷ [])) (divisor k22 (0 ∷ 1 ∷ 4 ∷ []))
-    (divisor k31 (0 ∷ 4 ∷ 0 ∷ 0 ∷ 3 ∷ 0 ∷ 1 ∷ 2 ∷ 4 ∷ []))
+    ∷ sum E one-two (divisor k22 (0 ∷ 1 ∷ 4 ∷ [])) (divisor k31 (0 ∷ 4 ∷ 0 ∷ 0 ∷ 3 ∷ 0 ∷ 1 ∷ 2 ∷ 4 ∷ []))
     ∷ divisor-refused E (divisor k11 (0 ∷ 0 ∷ [])) 9
     ∷ divisor-refused E (divisor k21 (3 ∷ 0 ∷ 0 ∷ 0 ∷ [])) 9
     ∷ curve-refused (curve 2 1 0) 5
