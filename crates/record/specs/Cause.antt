@@ -1,0 +1,25 @@
+-- Document 01, "Causes of refusal": "The first cause met decides, and a refusal is given for its cause only." What a call checks is a list
+-- of stages in document 01's order.
+--   Stage              refused n: it refuses with the number n; passed: it does not refuse
+--   must n A           the stage that refuses with n unless A holds
+--   FirstCause ss n    n is the number of the first stage of ss that refuses: all stages before it are passed
+--   Passes ss          every stage of ss is passed
+use mathlib.Core.Path.{_≡_}
+use mathlib.Core.Logic.{_⊎_}
+use mathlib.Core.List.{List, [], _∷_}
+use Prim.Native.Nat.{ℕ}
+
+pub record Stage : Type 1 where
+  pub refused : ℕ → Type 0
+  pub passed : Type 0
+
+abbrev pub must : ℕ → Type 0 → Stage
+must n A = record { refused = λ m. (¬ A) × (m ≡ n); passed = A }
+
+abbrev pub FirstCause : List Stage → ℕ → Type 0
+FirstCause [] n = ⊥
+FirstCause (s ∷ ss) n = s .refused n ⊎ (s .passed × FirstCause ss n)
+
+abbrev pub Passes : List Stage → Type 0
+Passes [] = Unit
+Passes (s ∷ ss) = s .passed × Passes ss

@@ -1,0 +1,72 @@
+-- Curve records in bytes. Document 01: kind 34, length 44, the numbers p, c0 to c8.
+--   modulus s          p
+--   equation s         the curve over the residues modulo p: F = y³ + x⁴ + c8·xy² + … + c0
+--   curve-stages s     what is checked of a curve, in order: 1 for size, 2, 1 for the kind's length, 3, 4, 5
+--   AcceptedCurve s    all of it holds
+--   setting-of         the prime and the curve of an accepted record
+--   limit              the largest modulus, 2147483647
+use mathlib.Core.Path.{_≡_, _∙_}
+use mathlib.Core.List.{List, [], _∷_}
+use Prim.Native.Nat.{ℕ, _+_, _*_, _<_, _≤_}
+use lib.ListN.{length}
+use Rattle.algebra.specs.Ring.{CommRing, Field}
+use Rattle.prime.specs.Prime.{Prime}
+use Rattle.field.specs.Residue.{Z, el}
+use Rattle.field.specs.Field.{F}
+use Rattle.curve.specs.Curve.{Curve}
+use Rattle.nonsingular.specs.Nonsingular.{Nonsingular}
+use Rattle.layout.specs.Layout.{number2, number4}
+use Rattle.triple.specs.Setting.{Setting}
+use Rattle.record.specs.Cause.{Stage, must, Passes}
+
+abbrev pub limit : ℕ
+limit = 2147483647
+
+abbrev pub curve-kind : ℕ
+curve-kind = 34
+
+abbrev pub curve-size : ℕ
+curve-size = 44
+
+abbrev pub modulus : List ℕ → ℕ
+modulus s = number4 s 4
+
+-- the coefficient ci
+abbrev pub coefficient-number : List ℕ → ℕ → ℕ
+coefficient-number s i = number4 s (8 + 4 * i)
+
+abbrev pub equation : (s : List ℕ) → Curve (Z (modulus s))
+equation s =
+    record {
+      a0 = Z (modulus s) .one;
+      c0 = el (modulus s) (coefficient-number s 0);
+      c1 = el (modulus s) (coefficient-number s 1);
+      c2 = el (modulus s) (coefficient-number s 2);
+      c3 = el (modulus s) (coefficient-number s 3);
+      c4 = el (modulus s) (coefficient-number s 4);
+      c5 = el (modulus s) (coefficient-number s 5);
+      c6 = el (modulus s) (coefficient-number s 6);
+      c7 = el (modulus s) (coefficient-number s 7);
+      c8 = el (modulus s) (coefficient-number s 8);
+    }
+
+abbrev pub curve-stages : List ℕ → List Stage
+curve-stages s =
+    must 1 ((4 ≤ length s) × (number2 s 0 ≡ length s))
+    ∷ must 2 (number2 s 2 ≡ curve-kind)
+    ∷ must 1 (length s ≡ curve-size)
+    ∷ must 3 (Prime (modulus s) × (modulus s ≤ limit))
+    ∷ must 4 ((i : ℕ) → i < 9 → coefficient-number s i < modulus s)
+    ∷ must 5 (Nonsingular (equation s))
+    ∷ []
+
+abbrev pub AcceptedCurve : List ℕ → Type 0
+AcceptedCurve s = Passes (curve-stages s)
+
+abbrev pub setting-of : (s : List ℕ) → AcceptedCurve s → Setting (modulus s)
+setting-of s A =
+    record {
+      prime = A .1 .1 .1 .0 .0;
+      curve = equation s;
+      nonzero = F (modulus s) (A .1 .1 .1 .0 .0) .nontrivial;
+    }
