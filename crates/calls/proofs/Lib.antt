@@ -1,0 +1,11 @@
+-- Laws of the calls: classes of records, the answers of each call, adding by pairs.
+pub mod Places
+pub mod Together
+pub mod Class
+pub mod Multiples
+pub mod Answers
+pub mod Exists
+pub mod Determined
+pub mod Shut
+pub mod Step
+pub mod Pairs

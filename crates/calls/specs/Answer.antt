@@ -1,0 +1,25 @@
+-- What a call returns and leaves, for every input. Document 01: "a refusal arrives there as the negative of its number"; "On success a call
+-- that writes returns the length written".
+--   minus n                    the number that a refusal n returns
+--   Writes ss Good out r out′  a call that writes, with the stages ss and the result buffer out: refused, it returns minus the number of the
+--                              first cause and leaves the buffer; else it returns the length of a record for which Good holds, and the buffer
+--                              has this record at its start and is the same after it
+--   Returns ss Good r          a call that writes nothing: refused, or it returns a number for which Good holds
+use mathlib.Core.Path.{_≡_}
+use mathlib.Core.List.{List, _++_}
+use Prim.Native.Nat.{ℕ, zero, suc}
+use lib.ListN.{length, drop}
+use lib.IntN.{ℤ, pos, negsuc}
+use Rattle.record.specs.Cause.{Stage, FirstCause, Passes}
+
+abbrev pub minus : ℕ → ℤ
+minus zero = pos 0
+minus (suc n) = negsuc n
+
+pub data Writes (ss : List Stage) (Good : List ℕ → Type 0) (out : List ℕ) (r : ℤ) (out′ : List ℕ) : Type 0 where
+  refused : (n : ℕ) → FirstCause ss n → r ≡ minus n → out′ ≡ out → Writes ss Good out r out′
+  written : (w : List ℕ) → Passes ss → Good w → r ≡ pos (length w) → out′ ≡ w ++ drop (length w) out → Writes ss Good out r out′
+
+pub data Returns (ss : List Stage) (Good : ℤ → Type 0) (r : ℤ) : Type 0 where
+  refused : (n : ℕ) → FirstCause ss n → r ≡ minus n → Returns ss Good r
+  answered : Passes ss → Good r → Returns ss Good r

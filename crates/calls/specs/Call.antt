@@ -1,0 +1,80 @@
+-- The nine calls. c is the curve's bytes, a and b a divisor's, s a list's, out the result buffer's. Document 01's order of causes: the
+-- curve; then 11; then each divisor from first to last; last 10.
+--   CheckCurve c r               CheckDivisor c a r
+--   Sum c a b out r out′         Double c a out r out′       Negative c a out r out′
+--   Multiple c a n out r out′    ListSum c s out r out′
+--   Compare c a b r              Count c s kind r
+use mathlib.Core.Path.{_≡_}
+use mathlib.Core.Logic.{_⊎_}
+use mathlib.Core.List.{List, [], _∷_, _++_}
+use mathlib.Core.Bool.{Bool, true, false}
+use Prim.Native.Nat.{ℕ, _+_, _≤_}
+use lib.ListN.{length}
+use lib.IntN.{ℤ, pos}
+use lib.Dec.{eqb}
+use Rattle.layout.specs.Layout.{number2}
+use Rattle.record.specs.Cause.{Stage, must}
+use Rattle.record.specs.Curve.{modulus, equation, curve-stages}
+use Rattle.record.specs.Divisor.{divisor-stages}
+use Rattle.record.specs.Listed.{Listed, list-stage, list-limit}
+use Rattle.calls.specs.Answer.{Writes, Returns}
+use Rattle.calls.specs.Class.{IsSum, IsNegative, IsMultiple, IsListSum}
+
+-- the divisor a on the curve c
+abbrev pub divisor-of : (c a : List ℕ) → List Stage
+divisor-of c a = divisor-stages (modulus c) (equation c) a
+
+-- the list s on the curve c
+abbrev pub list-of : (c s : List ℕ) → List Stage
+list-of c s = must 11 (length s ≤ list-limit) ∷ list-stage (modulus c) (equation c) s ∷ []
+
+-- the least length of a result buffer
+abbrev pub room : ℕ
+room = 40
+
+abbrev pub buffer : List ℕ → List Stage
+buffer out = must 10 (room ≤ length out) ∷ []
+
+abbrev pub CheckCurve : List ℕ → ℤ → Type 0
+CheckCurve c = Returns (curve-stages c) (λ r. r ≡ pos 1)
+
+abbrev pub CheckDivisor : (c a : List ℕ) → ℤ → Type 0
+CheckDivisor c a = Returns (curve-stages c ++ divisor-of c a) (λ r. r ≡ pos 1)
+
+abbrev pub Sum : (c a b out : List ℕ) → ℤ → List ℕ → Type 0
+Sum c a b out = Writes (curve-stages c ++ divisor-of c a ++ divisor-of c b ++ buffer out) (IsSum c a b) out
+
+abbrev pub Double : (c a out : List ℕ) → ℤ → List ℕ → Type 0
+Double c a out = Writes (curve-stages c ++ divisor-of c a ++ buffer out) (IsSum c a a) out
+
+abbrev pub Negative : (c a out : List ℕ) → ℤ → List ℕ → Type 0
+Negative c a out = Writes (curve-stages c ++ divisor-of c a ++ buffer out) (IsNegative c a) out
+
+abbrev pub Multiple : (c a : List ℕ) → ℤ → List ℕ → ℤ → List ℕ → Type 0
+Multiple c a n out = Writes (curve-stages c ++ divisor-of c a ++ buffer out) (IsMultiple c a n) out
+
+abbrev pub ListSum : (c s out : List ℕ) → ℤ → List ℕ → Type 0
+ListSum c s out =
+    Writes (curve-stages c ++ list-of c s ++ buffer out)
+    (λ w. (rs : List (List ℕ)) × Listed (modulus c) (equation c) s rs × IsListSum c rs w)
+    out
+
+-- "The comparison says yes if two accepted records have the same bytes, else no": 1 for yes, 0 for no.
+abbrev pub Compare : (c a b : List ℕ) → ℤ → Type 0
+Compare c a b =
+    Returns (curve-stages c ++ divisor-of c a ++ divisor-of c b)
+    (λ r. ((a ≡ b) × (r ≡ pos 1)) ⊎ ((¬ (a ≡ b)) × (r ≡ pos 0)))
+
+abbrev pub one-if : Bool → ℕ
+one-if true = 1
+one-if false = 0
+
+-- how many of the records have the kind
+abbrev pub tally : ℕ → List (List ℕ) → ℕ
+tally kind [] = 0
+tally kind (w ∷ ws) = one-if (eqb (number2 w 2) kind) + tally kind ws
+
+abbrev pub Count : (c s : List ℕ) → ℕ → ℤ → Type 0
+Count c s kind =
+    Returns (curve-stages c ++ list-of c s)
+    (λ r. (rs : List (List ℕ)) × Listed (modulus c) (equation c) s rs × (r ≡ pos (tally kind rs)))
