@@ -1,0 +1,6 @@
+-- Why the calls answer as they do.
+pub mod Ground
+pub mod Returns
+pub mod Read
+pub mod Size
+pub mod Multiple
