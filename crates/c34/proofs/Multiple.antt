@@ -1,5 +1,6 @@
 -- The multiple of a divisor by value, by the sign and the size of the number.
 --   times-asked            m copies are a divisor on the curve
+--   multiple-same          the multiple by the same number
 --   multiple-up            n is m, and the multiple is m copies
 --   multiple-down          n is −m, and the multiple is the negative of m copies
 use mathlib.Core.Path.{_≡_, sym, subst, ap}
@@ -37,3 +38,6 @@ module _ {e : Equation} {x : Divisor} where
               subst (λ (i : ℤ). IsMultiple c a i (z .0)) (sym e₁) (v, subst (λ (j : ℕ). IsListSum c (replicate j a) v) e₂ l, z .1),
               z .2,
             )
+
+  pub multiple-same : {r : Divisor} (m n : ℤ) → m ≡ n → MultipleMade e x m r → MultipleMade e x n r
+  multiple-same {r} m n q t c a o g = subst (λ (k : ℤ). (w : List ℕ) × IsMultiple c a k w × GivenOn c w r) q (t c a o g)

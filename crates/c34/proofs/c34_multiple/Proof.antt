@@ -1,5 +1,6 @@
 -- read_one's answer, the buffer, and then the result by value.
 use Rattle.c34.proofs.Read.{one-given, one-refused, one-passes}
+use Rattle.c34.proofs.Multiple.{multiple-same}
 use Rattle.c34.proofs.Returns.{refuses, short, writes, writing}
 use Rattle.calls.specs.Call.{divisor-of}
 use Rattle.record.specs.Curve.{curve-stages}
@@ -59,7 +60,7 @@ returns-2 c =
     let k = now (c .before .before .before .before .before .before .before .before .before .before .before .before .before .args .curve) in
     let a = now (c .before .before .before .before .before .before .before .before .before .before .before .before .before .args .a) in
     let g = one-given k a (c .before .before .before .before .before .before .before .before .before .read-one .result) (c .before .before .before .before .before .before .before .before .before .read-one .ensures) _ _ (c .before .before .before .before .before .before .before .read .given .1) in
-    let s = c .before .before .before .before .multiple-on .ensures k a (g .0) (g .1) in
+    let s = multiple-same _ _ (toZ-ofZ (c .before .before .before .before .before .before .before .before .before .before .before .before .before .fits .n)) (c .before .before .before .before .multiple-on .ensures) k a (g .0) (g .1) in
     let h = c .before .before .written .ensures k (s .0) (s .2) in
     writes (curve-stages k ++ divisor-of k a) (one-passes k a (g .0) (g .1)) (c .before .before .before .before .before .if1 .left) (s .0) (s .1) (toZ-ofZ {w = w32} {z = c .before .before .written .result} (record { sfits = c .before .before .written .ok }) ∙ h .0, h .1)
 

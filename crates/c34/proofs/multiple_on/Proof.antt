@@ -26,7 +26,7 @@ times-on-requires-2 : tie.Need-times-on-requires-2
 times-on-requires-2 c κs = search needs
 
 negative-on-requires : tie.Need-negative-on-requires
-negative-on-requires c κs = times-asked _ (c .before .before .before .before .before .pre) (c .times-on2 .ensures)
+negative-on-requires c κs = times-asked (c .before .before .size2 .given .0 .0) (c .before .before .before .before .before .pre) (c .times-on2 .ensures)
 
 returns : tie.Need-returns
 returns c = multiple-up (c .before .before .before .before .before .args .n) (c .before .before .before .before .size-of .result) (rw (toZ-ofZ (c .before .before .before .before .before .fits .n)) at (c .before .before .before .before .size-of .ensures)) _ (c .before .before .size .given .1) (c .times-on .ensures)

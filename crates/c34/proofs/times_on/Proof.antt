@@ -18,7 +18,7 @@ multiple-requires : tie.Need-multiple-requires
 multiple-requires c κs = negative-asked (c .before .before .cube .ensures) (c .before .neg .ensures) (c .before .before .before .pre)
 
 returns : tie.Need-returns
-returns c = times-made (c .before .before .before .cube .ensures) (c .before .before .neg .ensures) _ (c .multiple .ensures)
+returns c = times-made (c .before .before .before .cube .ensures) (c .before .before .neg .ensures) (c .before .before .before .before .args .m) (c .multiple .ensures)
 
 pub times-on-spec : {M : Type 1} → statement M
 times-on-spec = tie.close (tie.spec cube-requires neg-requires multiple-requires returns)
