@@ -4,3 +4,4 @@ pub mod Returns
 pub mod Read
 pub mod Size
 pub mod Multiple
+pub mod Sums

@@ -1,3 +1,8 @@
+use Prim.Native.Nat.{_-_, _≤_}
+use native.Mathlib.Omega.{arith}
+use borrow.Author.Needs.{needs}
+use lib.ListN.{length}
+use Rattle.c34.proofs.Sums.{Summed, Tallied}
 use Rattle.c34.proofs.list_count.Statement.{statement}
 use Rattle.c34.proofs.list_count.Tie as tie
 use Rattle.c34.proofs.list_count.Reads as reads
@@ -6,10 +11,10 @@ use Rattle.record.proofs.read_next.Reads as read-next-reads
 use Rattle.triple.proofs.equation.cube.Reads as cube-reads
 
 abbrev Inv-loop : tie.InvT-loop
-Inv-loop e list kind f count₀ at₀ count at = ?
+Inv-loop e list kind f count₀ at₀ count at = (at ≤ length list) × (count ≤ at) × Tallied e list kind at count
 
 abbrev μ-loop : tie.MeasureT-loop
-μ-loop e list kind f count₀ at₀ count at = ?
+μ-loop e list kind f count₀ at₀ count at = length list - at
 
 -- src/lib.rt:192:13
 cube-requires : tie.Need-cube-requires Inv-loop μ-loop
