@@ -5,3 +5,4 @@ pub mod Read
 pub mod Size
 pub mod Multiple
 pub mod Sums
+pub mod ListRead

@@ -326,9 +326,7 @@ pub extern "C" fn c34_compare(curve: &[u8], a: &[u8], b: &[u8]) -> i32
 {
     let read = read_two(curve, a, b);
     match read {
-        Two::Given(_, _, _) => {
-            if layout::same_bytes(a, b) { 1 } else { 0 }
-        }
+        Two::Given(_, _, _) => { if layout::same_bytes(a, b) { 1 } else { 0 } }
         Two::Refused(n) => refusal(n),
     }
 }

@@ -9,13 +9,6 @@ use lib.ListN.{length}
 use Rattle.c34.proofs.Sums.{Summed, Tallied}
 use Rattle.c34.proofs.list_total.Statement.{statement}
 use Rattle.c34.proofs.list_total.Tie as tie
-use Rattle.c34.proofs.list_total.Reads as reads
-use Rattle.c34.proofs.list_total.Lts as lts
-use Rattle.field.proofs.neg.Reads as neg-reads
-use Rattle.group.proofs.sum.Reads as sum-reads
-use Rattle.group.proofs.zero_class.Reads as zero-class-reads
-use Rattle.record.proofs.read_next.Reads as read-next-reads
-use Rattle.triple.proofs.equation.cube.Reads as cube-reads
 
 abbrev Inv-loop : tie.InvT-loop
 Inv-loop e list f k total₀ at₀ total at = (at ≤ length list) × Summed e list at total
