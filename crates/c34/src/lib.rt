@@ -197,9 +197,9 @@ fn list_count(e: Equation, list: &[u8], kind: u32) -> Tally
         match read {
             NextAnswer::Next(x, n) => {
                 if x.kind == kind {
-                    count = count + 1;
+                    count += 1;
                 }
-                at = at + n;
+                at += n;
             }
             NextAnswer::Refused(n) => {
                 return Tally::Refused(n);
