@@ -1,0 +1,3 @@
+-- Text as bytes.
+pub mod Decimal
+pub mod Put
