@@ -8,15 +8,15 @@
 --                          one number only
 --   record-fits            a record takes 4 to 40 bytes
 --   written-length         the buffer keeps its length
-use mathlib.Core.Path.{_≡_, refl, sym, _∙_, ap}
+use mathlib.Core.Path.{_≡_, sym, _∙_, ap}
 use mathlib.Core.Logic.{_⊎_, inl, inr}
 use mathlib.Core.List.{List, [], _∷_, _++_}
-use Prim.Native.Nat.{ℕ, _+_, _<_, _≤_}
+use Prim.Native.Nat.{ℕ, _<_, _≤_}
 use native.Mathlib.Omega.{arith}
 use lib.ListN.{length, drop, length-append, length-drop}
 use lib.IntN.{ℤ, pos}
 use Rattle.divisor.specs.Kind.{Kind}
-use Rattle.record.specs.Cause.{Stage, must, FirstCause, Passes}
+use Rattle.record.specs.Cause.{Stage, FirstCause, Passes}
 use Rattle.record.specs.Curve.{modulus, equation, curve-stages}
 use Rattle.record.proofs.Cause.{AllSound, sound-must, passes-refuses, one-cause, passes-append, first-append}
 use Rattle.record.proofs.Codes.{size-least, size-most}

@@ -4,6 +4,8 @@
 --   all-based, all-ideals  … and so for the records of a list
 --   class-reduced          a record whose ideal is equivalent to J is the record of the reduced ideal of J
 --   reduced-class          … and back, for a based ideal J with a nonzero element
+--   poles-same             the pole numbers do not depend on how the curve was accepted
+--   any-reduced, any-star  … so reduced ideals and stars for one proof of that are the results for each
 --   zero-accepted, zero-ideal, zero-reduced    the zero record: its ideal is the whole ring
 --   record-same            two records with the same ideal are the same
 --   class-same             … and so are two with equivalent ideals
@@ -15,26 +17,25 @@
 --   negative-one           there is one negative
 --   negative-back          a is the negative of its negative
 use mathlib.Core.Path.{_≡_, refl, sym, _∙_, ap, subst}
-use mathlib.Core.List.{List, [], _∷_, _++_}
-use Prim.Native.Nat.{ℕ, _<_}
+use mathlib.Core.List.{List, [], _∷_}
+use Prim.Native.Nat.{ℕ}
 use native.Mathlib.Omega.{arith}
-use lib.ListN.{length, getD}
-use Rattle.algebra.specs.Ring.{CommRing, Field}
-use Rattle.field.specs.Residue.{Z, el}
+use Rattle.algebra.specs.Ring.{CommRing}
+use Rattle.prime.specs.Prime.{Prime}
+use Rattle.prime.proofs.Primes.{prime-prop}
 use Rattle.field.specs.Field.{F}
-use Rattle.ideal.specs.Ideal.{IsIdeal, Product, ProductOf, SameIdeal, Equivalent}
+use Rattle.ideal.specs.Ideal.{IsIdeal, Product, SameIdeal, Equivalent}
 use Rattle.ideal.specs.Poles.{Poles}
 use Rattle.ideal.specs.Reduced.{IsStar, IsReduced}
 use Rattle.ideal.proofs.Same.{same-refl, same-sym}
 use Rattle.ideal.proofs.Every.{Every}
-use Rattle.ideal.proofs.Class.{equivalent-refl, equivalent-same, equivalent-sym, equivalent-trans}
+use Rattle.ideal.proofs.Class.{equivalent-same, equivalent-trans}
 use Rattle.ideal.proofs.Product.{product-comm, product-unit, product-same, product-ideal, product-equivalent}
 use Rattle.ideal.proofs.Reduced.{SmallFootprint, footprint-same, equivalent-reduced, reduced-equivalent, reduced-unique, footprint-class}
 use Rattle.ideal.proofs.Star.{star-back, star-unique}
 use Rattle.ideal.proofs.Finite.{BasedIdeal, footprint-based, product-based}
-use Rattle.ideal.proofs.Generated.{generated-ideal}
-use Rattle.curve.specs.Curve.{Curve, Coordinate}
-use Rattle.divisor.specs.Kind.{Kind, k0, polynomials, IdealOf}
+use Rattle.curve.specs.Poles.{poles}
+use Rattle.divisor.specs.Kind.{Kind, k0}
 use Rattle.divisor.proofs.Basis.{basis-footprint}
 use Rattle.layout.proofs.Bytes.{bytes-record}
 use Rattle.record.specs.Curve.{modulus, equation, AcceptedCurve, setting-of}
@@ -69,6 +70,17 @@ module _ (c : List ℕ) (A : AcceptedCurve c) where
 
 pub class-reduced : (c : List ℕ) {J : Ring c .Car → Type 0} (w : List ℕ) → Record c w → Equivalent (Ring c) J (Ideal c w) → ReducedOf c J w
 class-reduced c w r e = (r, λ A. equivalent-reduced (poles-on c A) (accepted-footprint c A w (r .1)) e)
+
+pub poles-same : (c : List ℕ) (A A′ : AcceptedCurve c) → poles-on c A ≡ poles-on c A′
+poles-same c A A′ =
+    ap (λ (q : Prime (modulus c)). poles (F (modulus c) q) (equation c) (F (modulus c) q .nontrivial)) (prime-prop (modulus c) (A .1 .1 .1 .0 .0) (A′ .1 .1 .1 .0 .0))
+
+module _ (c : List ℕ) (A : AcceptedCurve c) where
+  pub any-reduced : {J : Ring c .Car → Type 0} (w : List ℕ) → Record c w → IsReduced (poles-on c A) J (Ideal c w) → ReducedOf c J w
+  any-reduced {J} w r h = (r, λ A′. subst (λ (Q : Poles (Ring c)). IsReduced Q J (Ideal c w)) (poles-same c A A′) h)
+
+  pub any-star : (a w : List ℕ) → Record c w → IsStar (poles-on c A) (Ideal c a) (Ideal c w) → IsNegative c a w
+  any-star a w r h = (r, λ A′. subst (λ (Q : Poles (Ring c)). IsStar Q (Ideal c a) (Ideal c w)) (poles-same c A A′) h)
 
 module _ (c : List ℕ) where
   -- The zero record has the one polynomial 1, and no remaining monomial.

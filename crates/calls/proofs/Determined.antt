@@ -1,7 +1,7 @@
 -- Each input of a call has at most one answer: what it returns and the bytes that it leaves.
 --   check-curve-determined, check-divisor-determined, compare-determined, count-determined     calls that write nothing
 --   sum-determined, double-determined, negative-determined, multiple-determined, list-determined   calls that write
-use mathlib.Core.Path.{_≡_, refl, sym, _∙_, ap, subst}
+use mathlib.Core.Path.{_≡_, sym, _∙_, ap, subst}
 use mathlib.Core.Logic.{_⊎_, inl, inr}
 use mathlib.Core.List.{List, _++_}
 use Prim.Native.Nat.{ℕ}

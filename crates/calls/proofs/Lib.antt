@@ -5,5 +5,6 @@ pub mod Class
 pub mod Multiples
 pub mod Answers
 pub mod Determined
+pub mod Shut
 pub mod Step
 pub mod Pairs

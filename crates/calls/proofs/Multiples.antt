@@ -10,7 +10,7 @@
 --   multiple-add           m copies and n copies are m + n copies
 --   multiple-double        twice m copies are m + m copies
 --   multiple-one           there is one multiple
-use mathlib.Core.Path.{_≡_, refl, sym, _∙_, subst}
+use mathlib.Core.Path.{_≡_, refl, sym, subst}
 use mathlib.Core.List.{List, [], _∷_, _++_}
 use Prim.Native.Nat.{ℕ, zero, suc, _+_}
 use lib.ListN.{replicate, replicate-append-replicate}

@@ -6,7 +6,7 @@
 --   Stepped c rs gs p k    what holds after the call k
 --   short-step, enough-step    a call with a short buffer changes nothing; another one keeps what is kept
 --   step                   every call does
-use mathlib.Core.Path.{_≡_, refl, sym, _∙_, ap, ap₂, subst}
+use mathlib.Core.Path.{_≡_, sym, _∙_, ap, ap₂, subst}
 use mathlib.Core.List.{List, [], _∷_, _++_, List·Permᴰ}
 use Prim.Native.Nat.{ℕ, _+_, _<_, _≤_}
 use native.Mathlib.Omega.{arith}
@@ -19,7 +19,7 @@ use Rattle.ideal.specs.Poles.{Poles}
 use Rattle.ideal.proofs.Every.{Every, every-append}
 use Rattle.ideal.proofs.Class.{equivalent-sym, equivalent-trans}
 use Rattle.ideal.proofs.Product.{productof-join}
-use Rattle.record.specs.Curve.{modulus, equation, curve-stages, AcceptedCurve}
+use Rattle.record.specs.Curve.{curve-stages, AcceptedCurve}
 use Rattle.record.specs.Cause.{Passes}
 use Rattle.record.proofs.Cause.{passes-append}
 use Rattle.calls.specs.Answer.{minus}

@@ -11,15 +11,14 @@
 --   IsListSum c rs w           … of the product of the ideals of the records rs; the zero class for none
 use mathlib.Core.Path.{_≡_}
 use mathlib.Core.List.{List, [], _∷_}
-use Prim.Native.Nat.{ℕ, zero, suc}
+use Prim.Native.Nat.{ℕ, suc}
 use lib.ListN.{replicate}
 use lib.IntN.{ℤ, pos, negsuc}
 use Rattle.algebra.specs.Ring.{CommRing}
-use Rattle.field.specs.Residue.{Z}
 use Rattle.ideal.specs.Ideal.{Product, ProductOf}
 use Rattle.ideal.specs.Poles.{Poles}
 use Rattle.ideal.specs.Reduced.{IsStar, IsReduced}
-use Rattle.curve.specs.Curve.{Curve, Coordinate}
+use Rattle.curve.specs.Curve.{Coordinate}
 use Rattle.layout.specs.Layout.{Bytes, record-bytes}
 use Rattle.triple.specs.Setting.{poles-of}
 use Rattle.record.specs.Curve.{modulus, equation, AcceptedCurve, setting-of}

@@ -20,10 +20,8 @@ use Prim.Native.Nat.{ℕ, zero, suc, _+_, _<_, _≤_}
 use lib.ListN.{length, getD, take, drop}
 use lib.IntN.{ℤ, pos, negsuc}
 use lib.Dec.{eqb, leb}
-use Rattle.algebra.specs.Ring.{CommRing}
 use Rattle.ideal.specs.Ideal.{ProductOf}
-use Rattle.layout.specs.Layout.{Bytes}
-use Rattle.record.specs.Listed.{joined, list-limit}
+use Rattle.record.specs.Listed.{joined}
 use Rattle.calls.specs.Answer.{minus}
 use Rattle.calls.specs.Class.{Ring, Ideal, ReducedOf, zero-record}
 use Rattle.calls.specs.Call.{Sum, ListSum, one-if, room}

@@ -12,17 +12,15 @@
 --   basis-footprint        it is a based ideal with all leads from 6 on
 --   basis-based            … and so a based ideal with a nonzero element
 --   basis-reduced          … and its own reduced ideal
-use mathlib.Core.Path.{_≡_, refl, sym, _∙_, ap, ap₂, subst}
-use mathlib.Core.List.{List, [], _∷_, map}
-use mathlib.Core.Logic.{_↔_}
+use mathlib.Core.Path.{_≡_, sym, _∙_, ap, subst}
 use Prim.Native.Nat.{ℕ, _≤_}
 use native.Mathlib.Omega.{arith}
 use lib.Dec.{T}
 use Rattle.algebra.specs.Ring.{CommRing, Field}
 use Rattle.algebra.proofs.Laws as L
-use Rattle.algebra.proofs.Solve.{solve, _⊞_, _⊠_, ⊟_}
+use Rattle.algebra.proofs.Solve.{solve, _⊞_, ⊟_}
 use Rattle.ideal.specs.Ideal.{IsIdeal, SameIdeal}
-use Rattle.ideal.specs.Poles.{IsGap, IsPole, Poles}
+use Rattle.ideal.specs.Poles.{IsGap, Poles}
 use Rattle.ideal.specs.Reduced.{IsReduced}
 use Rattle.ideal.proofs.Gaps.{gap-dec}
 use Rattle.ideal.proofs.Every.{Every}

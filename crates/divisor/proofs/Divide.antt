@@ -1,23 +1,23 @@
 -- Division by a based space U: every element is an element of U and a rest without coefficients at the leads of U.
 --   Clean U r              r has no coefficient at a lead of U
 --   clean-zero             a clean element of U is zero
---   Division, divide       g ≡ rest ⊕ part, the rest clean, the part in U; both as low as g
-use mathlib.Core.Path.{_≡_, refl, sym, _∙_, ap, ap₂, subst}
-use mathlib.Core.Logic.{_⊎_, inl, inr, ⊎-elim}
-use Prim.Native.Nat.{ℕ, zero, suc, _+_, _≤_, _<_}
+--   Division, divide       g ≡ rest ⊕ part, the rest clean and as low as g, the part in U
+use mathlib.Core.Path.{_≡_, sym, _∙_, ap, ap₂, subst}
+use mathlib.Core.Logic.{⊎-elim}
+use Prim.Native.Nat.{ℕ, zero, suc, _≤_, _<_}
 use native.Mathlib.Omega.{arith}
 use native.Mathlib.Decide.{ℕ-discrete}
 use Rattle.algebra.specs.Ring.{CommRing, Field}
 use Rattle.algebra.proofs.Laws as L
-use Rattle.algebra.proofs.Solve.{solve, _⊞_, _⊠_, ⊟_}
+use Rattle.algebra.proofs.Solve.{solve, _⊞_, ⊟_}
 use Rattle.ideal.specs.Poles.{IsPole, Poles, Monic}
 use Rattle.ideal.proofs.Degree.{degree}
 use Rattle.ideal.proofs.Leads.{IsSpace, space-neg, Lead, Based, lead-monic}
 use Rattle.curve.specs.Curve.{Curve, Coordinate, constant}
 use Rattle.curve.specs.Monomial.{coefficient}
-use Rattle.curve.specs.Term.{coefficient-zero, coefficient-add, coefficient-constant-mul}
-use Rattle.curve.specs.Filtration.{Below, below-coefficient, coefficient-below, below-zero, below-add, below-neg, below-constant-mul, below-more}
-use Rattle.curve.specs.Poles.{poles, below-constant, below-some}
+use Rattle.curve.specs.Term.{coefficient-add, coefficient-constant-mul}
+use Rattle.curve.specs.Filtration.{Below, below-coefficient, coefficient-below, below-zero, below-add, below-constant-mul, below-more}
+use Rattle.curve.specs.Poles.{poles, below-constant}
 use Rattle.curve.proofs.Monic.{has-pole-coefficient, monic-coefficient}
 
 module _ (K : Field) (C : Curve (K .ring)) (nonzero : ¬ (C .a0 ≡ K .ring .zero)) (U : Coordinate C .Car → Type 0) where

@@ -9,18 +9,19 @@
 use mathlib.Core.Path.{_≡_, refl, sym, _∙_, ap, ap₂, subst}
 use mathlib.Core.Bool.{Bool, true, false}
 use mathlib.Core.List.{List, [], _∷_, map}
-use mathlib.Core.Logic.{_⊎_, inl, inr, ⊎-elim, _↔_, Iff·symm, Iff·trans}
-use Prim.Native.Nat.{ℕ, zero, suc, _+_, _*_, _≤_, _<_}
+use mathlib.Core.Logic.{inl, inr, ⊎-elim}
+use Prim.Native.Nat.{ℕ, zero, suc, _≤_}
 use native.Mathlib.Omega.{arith}
 use native.Mathlib.Decide.{decLe}
 use lib.Dec.{T, eqb, eqb→eq, ltb, ltb→lt}
 use Rattle.algebra.specs.Ring.{CommRing, Field}
 use Rattle.algebra.proofs.Laws as L
-use Rattle.algebra.proofs.Solve.{solve, _⊞_, _⊠_, ⊟_}
+use Rattle.algebra.proofs.Solve.{solve, _⊞_, ⊟_}
 use Rattle.ideal.specs.Ideal.{IsIdeal, Generated, Colon, SameIdeal}
 use Rattle.ideal.specs.Poles.{IsGap, IsPole, Poles}
 use Rattle.ideal.specs.Reduced.{IsReduced}
 use Rattle.ideal.proofs.Gaps.{gap-dec}
+use Rattle.ideal.proofs.Same.{same-sym, same-trans}
 use Rattle.ideal.proofs.Every.{Every, every-map}
 use Rattle.ideal.proofs.Degree.{mono-has, pole-at, pole-mul, pole-number}
 use Rattle.ideal.proofs.Leads.{Lead, ideal-space, lowering}
@@ -28,18 +29,18 @@ use Rattle.ideal.proofs.Span.{three-pole, four-pole}
 use Rattle.ideal.proofs.Generated.{generated-ideal, generated-in, generated-each}
 use Rattle.ideal.proofs.Reduced.{SmallFootprint, reduced-exists, reduced-footprint, reduced-unique}
 use Rattle.ideal.proofs.Finite.{BasedIdeal, generated-lead, generated-based-ideal}
-use Rattle.curve.specs.Curve.{Curve, Coordinate, constant}
+use Rattle.curve.specs.Curve.{Curve, Coordinate}
 use Rattle.curve.specs.Coefficient.{constant-one}
 use Rattle.curve.specs.Monomial.{coefficient, mono, pick}
 use Rattle.curve.specs.Term.{coefficient-gap, coefficient-neg}
 use Rattle.curve.specs.Filtration.{Below, below-coefficient}
 use Rattle.curve.specs.Product.{below-mono}
 use Rattle.curve.specs.Poles.{poles}
-use Rattle.divisor.specs.Kind.{Kind, k0, k11, k21, k22, k31, count, size, polynomials, IdealOf, IsBasis}
-use Rattle.divisor.proofs.Terms.{Terms, terms, absent, distinct, both, both-left, both-right, unlike, unlike-not, pole-test, pole-test-pole, Within, within-neg, reading, reading-terms}
-use Rattle.divisor.proofs.Table.{degree, Reached, kind-by, pole-by, remaining-poles, reached-large, absent-reached, Row, row, rows, poles-of, fill, row-terms, row-value, polynomials-rows}
+use Rattle.divisor.specs.Kind.{Kind, k0, k11, k21, k22, k31, size, polynomials, IdealOf, IsBasis}
+use Rattle.divisor.proofs.Terms.{terms, absent, distinct, both, both-left, both-right, unlike, unlike-not, pole-test, pole-test-pole, Within, within-neg, reading, reading-terms}
+use Rattle.divisor.proofs.Table.{Reached, kind-by, pole-by, remaining-poles, reached-large, absent-reached, Row, row, rows, poles-of, fill, row-value, polynomials-rows}
 use Rattle.divisor.proofs.Divide.{Clean, clean-zero, Division, divide}
-use Rattle.divisor.proofs.Basis.{Bare, made-bare, basis-lead, basis-footprint}
+use Rattle.divisor.proofs.Basis.{made-bare, basis-lead}
 use Rattle.divisor.proofs.Unique.{SameRecord, record-unique}
 
 reached-pole : (κ : Kind) (m : ℕ) → Reached κ m → IsPole m
@@ -88,7 +89,8 @@ module _ (K : Field) (C : Curve (K .ring)) (nonzero : ¬ (C .a0 ≡ K .ring .zer
     pub back : (m : ℕ) → Reached κ m → Lead P I m
 
   module _ {I : El → Type 0} (s : SmallFootprint P I) where
-    fits : (κ : Kind) → (Lead P I 0 → Reached κ 0) → (Lead P I 3 → Reached κ 3) → (Lead P I 4 → Reached κ 4) → (Reached κ 0 → Lead P I 0) → (Reached κ 3 → Lead P I 3) → (Reached κ 4 → Lead P I 4) → Fits I κ
+    fits : (κ : Kind) → (Lead P I 0 → Reached κ 0) → (Lead P I 3 → Reached κ 3) → (Lead P I 4 → Reached κ 4)
+        → (Reached κ 0 → Lead P I 0) → (Reached κ 3 → Lead P I 3) → (Reached κ 4 → Lead P I 4) → Fits I κ
     fits κ a b c a′ b′ c′ = record {
       there = λ m l. pole-by (λ m. Lead P I m → Reached κ m) a b c (λ m h _. reached-large κ m h) m (pole-number P (l .2)) l;
       back = λ m r. pole-by (λ m. Reached κ m → Lead P I m) a′ b′ c′ (λ m h _. s .leads m h) m (reached-pole κ m r) r;
@@ -146,7 +148,8 @@ module _ (K : Field) (C : Curve (K .ring)) (nonzero : ¬ (C .a0 ≡ K .ring .zer
           go (no q) (yes l) = divided d .1 p .0 m (fit .back m (absent-reached κ m q (covers-absent d ps (remaining-poles κ) m t u l)))
           go (no q) (no l) = below-coefficient C (divided d .1 p .1) m (omega arith)
 
-      row-solved : (n : ℕ → Car) (d : ℕ) (t : List (ℕ × ℕ)) → T (pole-test d) → T (distinct (poles-of t)) → T (covers d (poles-of t) (remaining-poles κ)) → Solves n (divided d .0) t → I (row-value C n (row d t))
+      row-solved : (n : ℕ → Car) (d : ℕ) (t : List (ℕ × ℕ)) → T (pole-test d) → T (distinct (poles-of t)) → T (covers d (poles-of t) (remaining-poles κ))
+          → Solves n (divided d .0) t → I (row-value C n (row d t))
       row-solved n d t a b c v = subst I (sym value) (divided d .1 p .2)
         where
           p : IsPole d
@@ -157,7 +160,8 @@ module _ (K : Field) (C : Curve (K .ring)) (nonzero : ¬ (C .a0 ≡ K .ring .zer
 
           value : row-value C n (row d t) ≡ mono C d ⊕ ⊖ r
           value =
-              ap₂ _⊕_ (ap (λ u. u ⊗ mono C d) (constant-one C) ∙ L.one-mul (Coordinate C) (mono C d)) (ap (terms C) (solves-fill n r t v) ∙ reading-terms C (poles-of t) (⊖ r) b (within-neg C (poles-of t) r (rest-within d (poles-of t) p c)))
+              ap₂ _⊕_ (ap (λ u. u ⊗ mono C d) (constant-one C) ∙ L.one-mul (Coordinate C) (mono C d))
+              (ap (terms C) (solves-fill n r t v) ∙ reading-terms C (poles-of t) (⊖ r) b (within-neg C (poles-of t) r (rest-within d (poles-of t) p c)))
 
     rows-solved : (κ : Kind) → Fits I κ → Every I (map (row-value C (numbers κ)) (rows κ))
     rows-solved k0 f = (row-solved k0 f (numbers k0) 0 [] tt tt tt tt, tt)
@@ -185,13 +189,19 @@ module _ (K : Field) (C : Curve (K .ring)) (nonzero : ¬ (C .a0 ≡ K .ring .zer
     record-exists = go kind-of
       where
         go : (κ : Kind) × Fits I κ → (κ : Kind) × (n : ℕ → Car) × IsBasis C κ n × SameIdeal (Coordinate C) I (IdealOf C κ n)
-        go (κ, fit) = (κ, numbers κ, basis, λ h. (lowering P (ideal-space P (generated-ideal (Coordinate C) (polynomials C κ (numbers κ)))) (ideal-space P (s .ideal)) inside (λ m l. basis-lead K C nonzero κ (numbers κ) basis m (fit .there m l)) h, inside h))
+        go (κ, fit) = (κ, numbers κ, basis, λ h. (lowering P (ideal-space P ideal) (ideal-space P (s .ideal)) inside leads h, inside h))
           where
+            ideal : IsIdeal (Coordinate C) (IdealOf C κ (numbers κ))
+            ideal = generated-ideal (Coordinate C) (polynomials C κ (numbers κ))
+
             inside : (h : El) → IdealOf C κ (numbers κ) h → I h
             inside = generated-in (Coordinate C) (s .ideal) (polynomials C κ (numbers κ)) (subst (λ gs. Every I gs) (sym (polynomials-rows C (numbers κ) κ)) (rows-solved κ fit))
 
             basis : IsBasis C κ (numbers κ)
             basis h i w = clean-zero K C nonzero I h (inside h i) (λ m l. made-bare C κ h w m (fit .there m l))
+
+            leads : (m : ℕ) → Lead P I m → Lead P (IdealOf C κ (numbers κ)) m
+            leads m l = basis-lead K C nonzero κ (numbers κ) basis m (fit .there m l)
 
   -- Document 01: "The record of a reduced ideal is the accepted record … whose ideal it is; there is only one." It has 4 to 40 bytes.
   pub record RecordOf (J : El → Type 0) : Type 0 where
@@ -218,7 +228,7 @@ module _ (K : Field) (C : Curve (K .ring)) (nonzero : ¬ (C .a0 ≡ K .ring .zer
       }
         where
           own : IsReduced P J (IdealOf C κ n)
-          own = record { f = r .f; least = r .least; f′ = r .f′; least′ = r .least′; same = λ g. Iff·trans (Iff·symm (e g)) (r .same g) }
+          own = record { f = r .f; least = r .least; f′ = r .f′; least′ = r .least′; same = same-trans (Coordinate C) (same-sym (Coordinate C) e) (r .same) }
 
       go : (f f′ : El) × IsReduced P J (Colon (Coordinate C) f′ (Colon (Coordinate C) f J)) → RecordOf J
       go (f, f′, r) = at r (record-exists (reduced-footprint P (j .ideal) (j .based) r))

@@ -7,14 +7,13 @@
 --   reached-lead, lead-reached     its leads are the numbers that the kind reaches
 --   spanned-space, spanned-based, spanned-each
 --   spanned-ideal-of       it lies in the ideal of the record
-use mathlib.Core.Path.{_≡_, refl, sym, _∙_, ap, ap₂, subst}
+use mathlib.Core.Path.{_≡_, refl, sym, _∙_, ap₂, subst}
 use mathlib.Core.List.{List, [], _∷_}
 use mathlib.Core.Logic.{_⊎_, inl, inr, ⊎-elim}
 use Prim.Native.Nat.{ℕ, zero, suc, _+_, _%_, _≤_, _<_}
 use native.Mathlib.Omega.{arith}
 use lib.Dec.{T, eqb, eqb-refl}
 use Rattle.algebra.specs.Ring.{CommRing, Field}
-use Rattle.algebra.proofs.Laws as L
 use Rattle.ideal.specs.Ideal.{IsIdeal}
 use Rattle.ideal.specs.Poles.{IsPole, Poles, HasPole, Monic}
 use Rattle.ideal.proofs.Gaps.{pole-apart, pole-intro}
@@ -25,9 +24,9 @@ use Rattle.ideal.proofs.Generated.{generated-ideal, generated-each}
 use Rattle.ideal.proofs.Span.{Span, span-space, span-each, span-in}
 use Rattle.ideal.proofs.Triple.{Reach, triple-lead, triple-reach, triple-based}
 use Rattle.curve.specs.Curve.{Curve, Coordinate, x, y, constant}
-use Rattle.curve.specs.Monomial.{coefficient, mono, twist, pick}
+use Rattle.curve.specs.Monomial.{coefficient, mono}
 use Rattle.curve.specs.Term.{pick-true}
-use Rattle.curve.specs.Filtration.{Below, below-coefficient, coefficient-below, below-zero, below-step}
+use Rattle.curve.specs.Filtration.{Below, below-coefficient, coefficient-below}
 use Rattle.curve.specs.Lead.{twist-one, top-y}
 use Rattle.curve.specs.Product.{below-mono, coefficient-mono}
 use Rattle.curve.specs.Poles.{poles}
@@ -35,7 +34,7 @@ use Rattle.curve.proofs.Monic.{monic-coefficient, coefficient-monic}
 use Rattle.divisor.specs.Kind.{Kind, k0, k11, k21, k22, k31, polynomials, IdealOf}
 use Rattle.divisor.proofs.Monomials.{mono-one, mono-x, mono-y, mono-xx, mono-xy, mono-yy}
 use Rattle.divisor.proofs.Terms.{Terms, terms, places, distinct, below, coefficient-terms, terms-top, pole-test-pole, pole-test}
-use Rattle.divisor.proofs.Table.{degree, Reached, kind-by, class-by, degree-class, one-term, two-terms, three-terms}
+use Rattle.divisor.proofs.Table.{degree, Reached, class-by, degree-class, one-term, two-terms, three-terms}
 
 module _ {k : CommRing} (C : Curve k) where
   open CommRing (Coordinate C) using (Car as El, one as 𝟏, add as _⊕_, mul as _⊗_)
@@ -101,7 +100,8 @@ module _ (K : Field) (C : Curve (K .ring)) (nonzero : ¬ (C .a0 ≡ K .ring .zer
 
   terms-monic : (d : ℕ) (ts : Terms C) {v : El} → T (distinct (d ∷ places C ts)) → T (below (d ∷ places C ts) (suc d)) → T (pole-test d) → v ≡ terms C ((𝟙, d) ∷ ts) → Monic P v d
   terms-monic d ts t u w e =
-      subst (λ (v : El). Monic P v d) (sym e) (coefficient-monic K C nonzero (pole-test-pole d w) (coefficient-terms C ((𝟙, d) ∷ ts) t d ∙ pick-true (eqb d d) 𝟙 _ (eqb-refl d)) (λ m h. terms-top C ((𝟙, d) ∷ ts) (suc d) m t u h))
+      subst (λ (v : El). Monic P v d) (sym e)
+      (coefficient-monic K C nonzero (pole-test-pole d w) (coefficient-terms C ((𝟙, d) ∷ ts) t d ∙ pick-true (eqb d d) 𝟙 _ (eqb-refl d)) (λ m h. terms-top C ((𝟙, d) ∷ ts) (suc d) m t u h))
 
   -- y times a monic element is monic unless y³ comes up
   pub monic-y : {g : El} (n : ℕ) → n % 3 ≤ 1 → Monic P g n → Monic P (y C ⊗ g) (4 + n)
@@ -109,7 +109,8 @@ module _ (K : Field) (C : Curve (K .ring)) (nonzero : ¬ (C .a0 ≡ K .ring .zer
     where
       go : IsPole n × (coefficient C n g ≡ 𝟙) × ((m : ℕ) → n < m → coefficient C m g ≡ 𝟘) → Monic P (y C ⊗ g) (4 + n)
       go (p, e, z) =
-          coefficient-monic K C nonzero (pole-intro (omega arith) (omega arith) (omega (arith, pole-apart p))) (top-y C .top b ∙ ap₂ _·ₖ_ (twist-one C 4 n (omega arith)) e ∙ K .ring .mul-one 𝟙) (λ m h. below-coefficient C (top-y C .bound b) m h)
+          coefficient-monic K C nonzero (pole-intro (omega arith) (omega arith) (omega (arith, pole-apart p)))
+          (top-y C .top b ∙ ap₂ _·ₖ_ (twist-one C 4 n (omega arith)) e ∙ K .ring .mul-one 𝟙) (λ m h. below-coefficient C (top-y C .bound b) m h)
         where
           b : Below C (suc n) g
           b = coefficient-below C (suc n) g z
@@ -118,10 +119,12 @@ module _ (K : Field) (C : Curve (K .ring)) (nonzero : ¬ (C .a0 ≡ K .ring .zer
   monic-1 : {v : El} (d : ℕ) (a : Car) → T (distinct (d ∷ 0 ∷ [])) → T (below (d ∷ 0 ∷ []) (suc d)) → T (pole-test d) → mono C d ≡ v → Monic P (v ⊕ constant C a) d
   monic-1 d a t u w e = terms-monic d ((a, 0) ∷ []) t u w (one-term C d a e)
 
-  monic-2 : {v w : El} (d p : ℕ) (b a : Car) → T (distinct (d ∷ p ∷ 0 ∷ [])) → T (below (d ∷ p ∷ 0 ∷ []) (suc d)) → T (pole-test d) → mono C d ≡ v → mono C p ≡ w → Monic P (v ⊕ constant C b ⊗ w ⊕ constant C a) d
+  monic-2 : {v w : El} (d p : ℕ) (b a : Car) → T (distinct (d ∷ p ∷ 0 ∷ [])) → T (below (d ∷ p ∷ 0 ∷ []) (suc d)) → T (pole-test d) → mono C d ≡ v → mono C p ≡ w
+      → Monic P (v ⊕ constant C b ⊗ w ⊕ constant C a) d
   monic-2 d p b a t u w e f = terms-monic d ((b, p) ∷ (a, 0) ∷ []) t u w (two-terms C d p b a e f)
 
-  monic-3 : {v : El} (d : ℕ) (c b a : Car) → T (distinct (d ∷ 4 ∷ 3 ∷ 0 ∷ [])) → T (below (d ∷ 4 ∷ 3 ∷ 0 ∷ []) (suc d)) → T (pole-test d) → mono C d ≡ v → Monic P (v ⊕ constant C c ⊗ y C ⊕ constant C b ⊗ x C ⊕ constant C a) d
+  monic-3 : {v : El} (d : ℕ) (c b a : Car) → T (distinct (d ∷ 4 ∷ 3 ∷ 0 ∷ [])) → T (below (d ∷ 4 ∷ 3 ∷ 0 ∷ []) (suc d)) → T (pole-test d) → mono C d ≡ v
+      → Monic P (v ⊕ constant C c ⊗ y C ⊕ constant C b ⊗ x C ⊕ constant C a) d
   monic-3 d c b a t u w e = terms-monic d ((c, 4) ∷ (b, 3) ∷ (a, 0) ∷ []) t u w (three-terms C d 4 3 c b a e (mono-y C) (mono-x C))
 
   pub member-monic : (n : ℕ → Car) (κ : Kind) (j : ℕ) → j ≤ 2 → Monic P (member C κ n j) (degree κ j)
@@ -135,7 +138,11 @@ module _ (K : Field) (C : Curve (K .ring)) (nonzero : ¬ (C .a0 ≡ K .ring .zer
   member-monic n k22 =
       let first : Monic P (member C k22 n 0) 3 = monic-1 3 (n 0) tt tt tt (mono-x C) in
       class-by (λ j. Monic P (member C k22 n j) (degree k22 j)) first (monic-y 3 (omega arith) first) (monic-2 8 4 (n 2) (n 1) tt tt tt (mono-yy C) (mono-y C))
-  member-monic n k31 = class-by (λ j. Monic P (member C k31 n j) (degree k31 j)) (monic-3 6 (n 2) (n 1) (n 0) tt tt tt (mono-xx C)) (monic-3 7 (n 5) (n 4) (n 3) tt tt tt (mono-xy C)) (monic-3 8 (n 8) (n 7) (n 6) tt tt tt (mono-yy C))
+  member-monic n k31 =
+      class-by (λ j. Monic P (member C k31 n j) (degree k31 j))
+      (monic-3 6 (n 2) (n 1) (n 0) tt tt tt (mono-xx C))
+      (monic-3 7 (n 5) (n 4) (n 3) tt tt tt (mono-xy C))
+      (monic-3 8 (n 8) (n 7) (n 6) tt tt tt (mono-yy C))
 
   pub member-pole : (n : ℕ → Car) (κ : Kind) (j : ℕ) → j ≤ 2 → HasPole P (member C κ n j) (degree κ j)
   member-pole n κ j l = monic-pole P (member-monic n κ j l)

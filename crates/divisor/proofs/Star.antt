@@ -1,35 +1,28 @@
--- Records of colon ideals, stars and classes: what the calls cite.
+-- How a record is recognised as the record of a colon ideal, and so of a star.
 --   Matched J κ d          J has a lead d + 5 − r for each remaining pole number r of the kind
 --   colon-recognised       a record whose polynomials lie in (f : J) is a basis, and its ideal is (f : J), if J matches the kind at f's pole number
 --   star-recognised        … so it is J* for the least element f of J
---   star-twice             the record of (J*)* is that of the reduced ideal of J
---   equivalent-record      a basis whose ideal is equivalent to J is the record of the reduced ideal of J
---   record-equivalent      J is equivalent to the ideal of the record of its reduced ideal
---   record-class           two bases with equivalent ideals have the same ideal
-use mathlib.Core.Path.{_≡_, refl, sym, _∙_, ap, subst}
+use mathlib.Core.Path.{_≡_, refl, sym, subst}
 use mathlib.Core.Bool.{Bool, true, false}
 use mathlib.Core.List.{List, [], _∷_}
-use mathlib.Core.Logic.{_↔_, Iff·symm, Iff·trans}
-use Prim.Native.Nat.{ℕ, _+_, _≤_}
-use native.Mathlib.Omega.{arith}
+use Prim.Native.Nat.{ℕ, _+_}
 use lib.Dec.{T, eqb, eqb→eq}
 use Rattle.algebra.specs.Ring.{CommRing, Field}
-use Rattle.ideal.specs.Ideal.{IsIdeal, Colon, SameIdeal, Equivalent}
+use Rattle.ideal.specs.Ideal.{Colon, SameIdeal}
 use Rattle.ideal.specs.Poles.{largest-gap, IsPole, Poles, HasPole}
-use Rattle.ideal.specs.Reduced.{Least, IsStar, IsReduced}
+use Rattle.ideal.specs.Reduced.{Least, IsStar}
+use Rattle.ideal.proofs.Same.{same-sym, same-trans}
 use Rattle.ideal.proofs.Every.{Every}
 use Rattle.ideal.proofs.Leads.{Lead}
 use Rattle.ideal.proofs.Colon.{colon-ideal}
 use Rattle.ideal.proofs.Recognise.{recognise}
-use Rattle.ideal.proofs.Reduced.{star-star, equivalent-reduced, reduced-equivalent, footprint-class}
-use Rattle.ideal.proofs.Finite.{BasedIdeal}
 use Rattle.curve.specs.Curve.{Curve, Coordinate, y}
 use Rattle.curve.specs.Poles.{poles}
 use Rattle.divisor.specs.Kind.{Kind, polynomials, IdealOf, IsBasis}
 use Rattle.divisor.proofs.Terms.{absent, both, unlike}
-use Rattle.divisor.proofs.Table.{Reached, remaining-poles, absent-reached, class-by}
+use Rattle.divisor.proofs.Table.{Reached, remaining-poles, absent-reached}
 use Rattle.divisor.proofs.Members.{member, members, Spanned, spanned-space, spanned-based, reached-lead, spanned-in, spanned-each}
-use Rattle.divisor.proofs.Basis.{Closed, closed-same, closed-basis, basis-footprint}
+use Rattle.divisor.proofs.Basis.{Closed, closed-same, closed-basis}
 
 -- a pole number that the kind does not reach is one of the remaining
 pub remaining-find : (κ : Kind) (Q : ℕ → Type 0) → Every Q (remaining-poles κ) → (m : ℕ) → IsPole m → ¬ Reached κ m → Q m
@@ -67,22 +60,10 @@ module _ (K : Field) (C : Curve (K .ring)) (nonzero : ¬ (C .a0 ≡ K .ring .zer
 
       pub colon-recognised : IsBasis C κ n × SameIdeal (Coordinate C) (IdealOf C κ n) (Colon (Coordinate C) f J)
       colon-recognised =
-          (closed-basis K C nonzero κ n colon-closed, λ g. Iff·trans (Iff·symm (closed-same K C nonzero κ n colon-closed g)) (spanned-colon g))
+          (closed-basis K C nonzero κ n colon-closed, same-trans (Coordinate C) (same-sym (Coordinate C) (closed-same K C nonzero κ n colon-closed)) spanned-colon)
 
     pub star-recognised : {J : El → Type 0} {f : El} {d : ℕ} → Least P J f → HasPole P f d → Matched J κ d → Every (Colon (Coordinate C) f J) (polynomials C κ n) → IsBasis C κ n × IsStar P J (IdealOf C κ n)
     star-recognised {J} {f} l pf met ms = (found .0, record { f = f; least = l; same = found .1 })
       where
         found : IsBasis C κ n × SameIdeal (Coordinate C) (IdealOf C κ n) (Colon (Coordinate C) f J)
         found = colon-recognised J pf met ms
-
-    pub star-twice : {J A : El → Type 0} → IsStar P J A → IsStar P A (IdealOf C κ n) → IsReduced P J (IdealOf C κ n)
-    star-twice s t = star-star P s t
-
-    pub equivalent-record : {J : El → Type 0} → IsBasis C κ n → Equivalent (Coordinate C) J (IdealOf C κ n) → IsReduced P J (IdealOf C κ n)
-    equivalent-record b e = equivalent-reduced P (basis-footprint K C nonzero κ n b) e
-
-    pub record-equivalent : {J : El → Type 0} → BasedIdeal P J → IsReduced P J (IdealOf C κ n) → Equivalent (Coordinate C) J (IdealOf C κ n)
-    record-equivalent j r = reduced-equivalent P (j .ideal) (j .based) r
-
-  pub record-class : (κ κ′ : Kind) (n n′ : ℕ → K .ring .Car) → IsBasis C κ n → IsBasis C κ′ n′ → Equivalent (Coordinate C) (IdealOf C κ n) (IdealOf C κ′ n′) → SameIdeal (Coordinate C) (IdealOf C κ n) (IdealOf C κ′ n′)
-  record-class κ κ′ n n′ b b′ e = footprint-class P (basis-footprint K C nonzero κ n b) (basis-footprint K C nonzero κ′ n′ b′) e

@@ -2,26 +2,28 @@
 --   degree κ j             the pole number of the kind's member in class j modulo 3
 --   Reached κ m            m is a pole number from the kind's degree in the class of m on
 --   remaining-poles κ      the pole numbers of the remaining monomials
---   Row, rows κ            a polynomial: the pole number of its lead, and for each lower term the number's place in the record and the pole number
---   row-terms n r          its terms, with the numbers n
---   polynomials-rows       the polynomials of a record are those of its rows
---   remaining-monos        the remaining monomials are those of remaining-poles κ
+--   kind-by, class-by, pole-by     what holds of each kind, of each class modulo 3, of 0, 3, 4 and the numbers from 6 on
+--   degree-class, degree-bound     degree κ j lies in class j and is at most 6 + j
 --   reached-large          every number from 6 on is reached
 --   reached-absent, absent-reached     a pole number is reached exactly if it does not remain
---   row-ok                 the tests of a kind's rows
-use mathlib.Core.Path.{_≡_, refl, sym, _∙_, ap, ap₂, subst}
+--   Row, rows κ            a polynomial: the pole number of its lead, and for each lower term the number's place in the record and the pole number
+--   row-terms n r, row-value n r       its terms with the numbers n, and their sum
+--   one-term, two-terms, three-terms   sums with so many numbers, as document 01 writes them, are sums of terms
+--   polynomials-rows       the polynomials of a record are those of its rows
+--   remaining-monos        the remaining monomials are those of remaining-poles κ
+use mathlib.Core.Path.{_≡_, refl, sym, ap, ap₂, subst}
 use mathlib.Core.Bool.{Bool, true, false}
 use mathlib.Core.List.{List, [], _∷_, map}
-use Prim.Native.Nat.{ℕ, zero, suc, _+_, _%_, _≤_, _<_}
+use Prim.Native.Nat.{ℕ, zero, suc, _+_, _%_, _≤_}
 use native.Mathlib.Omega.{arith}
 use native.Mathlib.Decide.{ℕ-discrete}
 use lib.Dec.{T, eqb, eqb→eq}
 use Rattle.algebra.specs.Ring.{CommRing}
 use Rattle.algebra.proofs.Laws as L
 use Rattle.ideal.specs.Poles.{IsPole}
-use Rattle.ideal.proofs.Gaps.{pole-apart, pole-intro}
+use Rattle.ideal.proofs.Gaps.{pole-apart}
 use Rattle.ideal.proofs.Every.{Every}
-use Rattle.curve.specs.Curve.{Curve, Coordinate, x, y, constant}
+use Rattle.curve.specs.Curve.{Curve, Coordinate, constant}
 use Rattle.curve.specs.Coefficient.{constant-one}
 use Rattle.curve.specs.Monomial.{mono}
 use Rattle.divisor.specs.Kind.{Kind, k0, k11, k21, k22, k31, polynomials, remaining}
@@ -71,10 +73,22 @@ class-by Q a b c (suc (suc zero)) l = c
 class-by Q a b c (suc (suc (suc j))) l = absurd (omega arith)
 
 pub degree-class : (κ : Kind) (j : ℕ) → j ≤ 2 → degree κ j % 3 ≡ j
-degree-class = kind-by (λ κ. (j : ℕ) → j ≤ 2 → degree κ j % 3 ≡ j) (class-by _ refl refl refl) (class-by _ refl refl refl) (class-by _ refl refl refl) (class-by _ refl refl refl) (class-by _ refl refl refl)
+degree-class =
+    kind-by (λ κ. (j : ℕ) → j ≤ 2 → degree κ j % 3 ≡ j)
+    (class-by _ refl refl refl)
+    (class-by _ refl refl refl)
+    (class-by _ refl refl refl)
+    (class-by _ refl refl refl)
+    (class-by _ refl refl refl)
 
 pub degree-bound : (κ : Kind) (j : ℕ) → j ≤ 2 → degree κ j ≤ 6 + j
-degree-bound = kind-by (λ κ. (j : ℕ) → j ≤ 2 → degree κ j ≤ 6 + j) (class-by _ (omega arith) (omega arith) (omega arith)) (class-by _ (omega arith) (omega arith) (omega arith)) (class-by _ (omega arith) (omega arith) (omega arith)) (class-by _ (omega arith) (omega arith) (omega arith)) (class-by _ (omega arith) (omega arith) (omega arith))
+degree-bound =
+    kind-by (λ κ. (j : ℕ) → j ≤ 2 → degree κ j ≤ 6 + j)
+    (class-by _ (omega arith) (omega arith) (omega arith))
+    (class-by _ (omega arith) (omega arith) (omega arith))
+    (class-by _ (omega arith) (omega arith) (omega arith))
+    (class-by _ (omega arith) (omega arith) (omega arith))
+    (class-by _ (omega arith) (omega arith) (omega arith))
 
 pub reached-large : (κ : Kind) (m : ℕ) → 6 ≤ m → Reached κ m
 reached-large κ m l = omega (arith, degree-bound κ (m % 3) (omega arith))
@@ -180,7 +194,8 @@ module _ {k : CommRing} (C : Curve k) where
   pub two-terms : {v w : El} (d p : ℕ) (b a : Car) → mono C d ≡ v → mono C p ≡ w → v ⊕ constant C b ⊗ w ⊕ constant C a ≡ terms C ((𝟙, d) ∷ (b, p) ∷ (a, 0) ∷ [])
   two-terms d p b a e f = shape-2 (Coordinate C) (constant-one C) (mono-one C) e f
 
-  pub three-terms : {v u w : El} (d q p : ℕ) (c b a : Car) → mono C d ≡ v → mono C q ≡ u → mono C p ≡ w → v ⊕ constant C c ⊗ u ⊕ constant C b ⊗ w ⊕ constant C a ≡ terms C ((𝟙, d) ∷ (c, q) ∷ (b, p) ∷ (a, 0) ∷ [])
+  pub three-terms : {v u w : El} (d q p : ℕ) (c b a : Car) → mono C d ≡ v → mono C q ≡ u → mono C p ≡ w
+      → v ⊕ constant C c ⊗ u ⊕ constant C b ⊗ w ⊕ constant C a ≡ terms C ((𝟙, d) ∷ (c, q) ∷ (b, p) ∷ (a, 0) ∷ [])
   three-terms d q p c b a e f g = shape-3 (Coordinate C) (constant-one C) (mono-one C) e f g
 
   pub polynomials-rows : (n : ℕ → Car) (κ : Kind) → polynomials C κ n ≡ map (row-value n) (rows κ)

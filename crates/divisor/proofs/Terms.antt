@@ -13,20 +13,19 @@
 use mathlib.Core.Path.{_≡_, refl, sym, _∙_, ap, ap₂, subst}
 use mathlib.Core.Bool.{Bool, true, false}
 use mathlib.Core.List.{List, [], _∷_, map}
-use Prim.Native.Nat.{ℕ, suc, _≤_, _<_}
+use Prim.Native.Nat.{ℕ, _≤_, _<_}
 use native.Mathlib.Omega.{arith}
 use lib.Dec.{T, eqb, eqb→eq, eqb-refl, ltb, ltb→lt}
 use Rattle.algebra.specs.Ring.{CommRing}
 use Rattle.algebra.proofs.Laws as L
-use Rattle.ideal.specs.Poles.{IsGap, IsPole}
+use Rattle.ideal.specs.Poles.{IsPole}
 use Rattle.ideal.proofs.Gaps.{pole-intro}
 use Rattle.curve.specs.Curve.{Curve, Coordinate, constant}
-use Rattle.curve.specs.Coefficient.{constant-one}
 use Rattle.curve.specs.Monomial.{coefficient, mono, pick}
 use Rattle.curve.specs.Term.{coefficient-zero, coefficient-add, coefficient-neg, coefficient-constant-mul, coefficient-ext}
 use Rattle.curve.specs.Product.{coefficient-mono}
+use Rattle.curve.proofs.Monomial.{coefficient-mono-other}
 use Rattle.divisor.specs.Kind.{MadeOf}
-use Rattle.divisor.proofs.Monomials.{coefficient-mono-other}
 
 abbrev pub both : Bool → Bool → Bool
 both true b = b
@@ -145,7 +144,7 @@ module _ {k : CommRing} (C : Curve k) where
           ∙ k .add-zero _
           ∙ k .mul-one a
       go false e =
-          ap (λ u. a ·ₖ u +ₖ find m ts) (coefficient-mono-other C p m pole (λ f. subst T e (subst (λ (v : ℕ). T (eqb m v)) f (eqb-refl m))))
+          ap (λ u. a ·ₖ u +ₖ find m ts) (coefficient-mono-other C m p pole (λ f. subst T e (subst (λ (v : ℕ). T (eqb m v)) f (eqb-refl m))))
           ∙ ap (λ u. u +ₖ find m ts) (L.mul-zero k a)
           ∙ L.zero-add k _
 
@@ -177,7 +176,9 @@ module _ {k : CommRing} (C : Curve k) where
   find-reading [] h m w = sym (w tt)
   find-reading (p ∷ ps) h m w = go (eqb m p) refl (find-reading ps h m) w
     where
-      go : (b : Bool) → eqb m p ≡ b → ((T (absent m ps) → coefficient C m h ≡ 𝟘) → find m (reading ps h) ≡ coefficient C m h) → (T (both (unlike b) (absent m ps)) → coefficient C m h ≡ 𝟘) → pick b (coefficient C p h) (find m (reading ps h)) ≡ coefficient C m h
+      go : (b : Bool) → eqb m p ≡ b → ((T (absent m ps) → coefficient C m h ≡ 𝟘) → find m (reading ps h) ≡ coefficient C m h)
+          → (T (both (unlike b) (absent m ps)) → coefficient C m h ≡ 𝟘)
+          → pick b (coefficient C p h) (find m (reading ps h)) ≡ coefficient C m h
       go true e f v = ap (λ n. coefficient C n h) (sym (eqb→eq m p (subst T (sym e) tt)))
       go false e f v = f v
 
@@ -192,7 +193,8 @@ module _ {k : CommRing} (C : Curve k) where
 
   pub within-made : (ps : List ℕ) (h : El) → T (distinct ps) → Within ps h → MadeOf C (map (mono C) ps) h
   within-made ps h t w =
-      subst (λ (g : El). MadeOf C (map (mono C) ps) g) (reading-terms ps h t w) (subst (λ (qs : List ℕ). MadeOf C (map (mono C) qs) (terms (reading ps h))) (reading-places ps h) (terms-made (reading ps h)))
+      subst (λ (g : El). MadeOf C (map (mono C) ps) g) (reading-terms ps h t w)
+      (subst (λ (qs : List ℕ). MadeOf C (map (mono C) qs) (terms (reading ps h))) (reading-places ps h) (terms-made (reading ps h)))
 
   made-terms : (ps : List ℕ) (h : El) → MadeOf C (map (mono C) ps) h → (ts : Terms) × (places ts ≡ ps) × (h ≡ terms ts)
   made-terms [] h e = ([], refl, e)

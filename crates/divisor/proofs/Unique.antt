@@ -1,14 +1,14 @@
 -- Two bases with the same ideal are the same record.
---   SameRecord κ n κ′ n′   the same kind and the same numbers
+--   SameRecord κ n κ′ n′   the same kind and the same numbers, as many as the kind has
+--   rows-right, all-placed tests of the table of rows: lower terms remain, and each number of a record has its place
 --   degree-same            bases with the same ideal have the same degrees
 --   kind-same              kinds with the same degrees are the same
---   row-same               the same row in one ideal has the same numbers
+--   row-coefficient        the coefficients of a polynomial of a record are found in its terms
 --   record-unique          bases with the same ideal are the same record
 use mathlib.Core.Path.{_≡_, refl, sym, _∙_, ap, ap₂, subst}
 use mathlib.Core.Bool.{Bool, true, false}
 use mathlib.Core.List.{List, [], _∷_, map}
-use mathlib.Core.Logic.{_↔_}
-use Prim.Native.Nat.{ℕ, zero, suc, _+_, _%_, _≤_, _<_}
+use Prim.Native.Nat.{ℕ, zero, suc, _≤_, _<_}
 use native.Mathlib.Omega.{arith}
 use native.Mathlib.Decide.{ℕ-discrete}
 use lib.Dec.{T, eqb, eqb→eq, eqb-refl}
@@ -24,7 +24,7 @@ use Rattle.curve.specs.Monomial.{coefficient, pick}
 use Rattle.curve.specs.Term.{coefficient-add, coefficient-neg, pick-true}
 use Rattle.curve.specs.Poles.{poles}
 use Rattle.divisor.specs.Kind.{Kind, k0, k11, k21, k22, k31, count, polynomials, IdealOf, IsBasis}
-use Rattle.divisor.proofs.Terms.{Terms, terms, find, places, pole-test, absent, distinct, both, both-left, both-right, unlike, unlike-not, find-absent, coefficient-terms}
+use Rattle.divisor.proofs.Terms.{Terms, find, places, pole-test, absent, distinct, both, both-left, both-right, unlike, unlike-not, find-absent, coefficient-terms}
 use Rattle.divisor.proofs.Table.{degree, Reached, kind-by, degree-class, remaining-poles, reached-absent, Row, rows, poles-of, fill, row-terms, row-value, polynomials-rows}
 use Rattle.divisor.proofs.Basis.{Bare, bare-made, basis-lead, lead-basis}
 
@@ -129,7 +129,7 @@ module _ {k : CommRing} (C : Curve k) where
   fill-places n [] = refl
   fill-places n ((i, p) ∷ t) = ap (λ ps. p ∷ ps) (fill-places n t)
 
-  row-coefficient : (n : ℕ → Car) (r : Row) → T (distinct (r .lead ∷ poles-of (r .tail))) → (m : ℕ) → coefficient C m (row-value C n r) ≡ find C m (row-terms C n r)
+  pub row-coefficient : (n : ℕ → Car) (r : Row) → T (distinct (r .lead ∷ poles-of (r .tail))) → (m : ℕ) → coefficient C m (row-value C n r) ≡ find C m (row-terms C n r)
   row-coefficient n r t m =
       coefficient-terms C (row-terms C n r) (subst (λ ps. T (distinct (r .lead ∷ ps))) (sym (fill-places n (r .tail))) t) m
 
@@ -147,8 +147,10 @@ module _ {k : CommRing} (C : Curve k) where
   module _ (n n′ : ℕ → Car) where
     fill-agree : (t : List (ℕ × ℕ)) → T (distinct (poles-of t)) → ((m : ℕ) → find C m (fill C n t) ≡ find C m (fill C n′ t)) → Agree n n′ t
     fill-agree [] u e = tt
-    fill-agree ((i, p) ∷ t) u e =
-        (sym (pick-true (eqb p p) (n i) (find C p (fill C n t)) (eqb-refl p)) ∙ e p ∙ pick-true (eqb p p) (n′ i) (find C p (fill C n′ t)) (eqb-refl p), fill-agree t (both-right (absent p (poles-of t)) (distinct (poles-of t)) v) (tail-same (n i) (n′ i) p (fill C n t) (fill C n′ t) (fill-absent n t p w) (fill-absent n′ t p w) e))
+    fill-agree ((i, p) ∷ t) u e = (
+      sym (pick-true (eqb p p) (n i) (find C p (fill C n t)) (eqb-refl p)) ∙ e p ∙ pick-true (eqb p p) (n′ i) (find C p (fill C n′ t)) (eqb-refl p),
+      fill-agree t (both-right (absent p (poles-of t)) (distinct (poles-of t)) v) (tail-same (n i) (n′ i) p (fill C n t) (fill C n′ t) (fill-absent n t p w) (fill-absent n′ t p w) e),
+    )
       where
         v : T (both (absent p (poles-of t)) (distinct (poles-of t)))
         v = both-right (pole-test p) (both (absent p (poles-of t)) (distinct (poles-of t))) u
@@ -177,7 +179,9 @@ module _ {k : CommRing} (C : Curve k) where
 
       value-agree : row-value C n r ≡ row-value C n′ r → Agree n n′ (r .tail)
       value-agree e =
-          fill-agree (r .tail) (both-right (absent (r .lead) ps) (distinct ps) v) (tail-same 𝟙 𝟙 (r .lead) (fill C n (r .tail)) (fill C n′ (r .tail)) (fill-absent n (r .tail) (r .lead) w) (fill-absent n′ (r .tail) (r .lead) w) (λ m. sym (row-coefficient n r apart m) ∙ ap (coefficient C m) e ∙ row-coefficient n′ r apart m))
+          fill-agree (r .tail) (both-right (absent (r .lead) ps) (distinct ps) v)
+          (tail-same 𝟙 𝟙 (r .lead) (fill C n (r .tail)) (fill C n′ (r .tail)) (fill-absent n (r .tail) (r .lead) w) (fill-absent n′ (r .tail) (r .lead) w)
+          (λ m. sym (row-coefficient n r apart m) ∙ ap (coefficient C m) e ∙ row-coefficient n′ r apart m))
         where
           ps : List ℕ
           ps = poles-of (r .tail)
@@ -209,7 +213,8 @@ module _ (K : Field) (C : Curve (K .ring)) (nonzero : ¬ (C .a0 ≡ K .ring .zer
       one : (r : Row) → T (row-test κ r) → IdealOf C κ n (row-value C n r) → IdealOf C κ n′ (row-value C n′ r) → Agree n n′ (r .tail)
       one r t a b = value-agree C n n′ κ r t (L.sub-zero→eq (Coordinate C) _ _ (basis _ (I .sum a (space-neg P (ideal-space P I) (e _ .1 b))) (bare-made C κ _ (difference-bare C n n′ κ r t))))
 
-      go : (rs : List Row) → Every (λ r. T (row-test κ r)) rs → Every (IdealOf C κ n) (map (row-value C n) rs) → Every (IdealOf C κ n′) (map (row-value C n′) rs) → Every (λ r. Agree n n′ (r .tail)) rs
+      go : (rs : List Row) → Every (λ r. T (row-test κ r)) rs → Every (IdealOf C κ n) (map (row-value C n) rs) → Every (IdealOf C κ n′) (map (row-value C n′) rs)
+          → Every (λ r. Agree n n′ (r .tail)) rs
       go [] _ _ _ = tt
       go (r ∷ rs) (t, ts) (a, bs) (a′, bs′) = (one r t a a′, go rs ts bs bs′)
 

@@ -5,3 +5,5 @@ pub mod Accepted
 pub mod Written
 pub mod Lists
 pub mod Unique
+pub mod Suffices
+pub mod Answer

@@ -1,8 +1,8 @@
 -- Two accepted records with the same ideal are the same bytes, and residues that are a basis have an accepted record.
 --   accepted-unique    accepted records with the same ideal are the same
 --   upto c f           the list f 0, …, f (c − 1)
---   record-of κ n      the record of kind κ whose numbers are those of the residues n
---   record-of-bytes, record-of-length, record-of-reads, record-of-ideal    it is bytes, of the kind's length, accepted, with their ideal
+--   residue-record κ n the record of kind κ whose numbers are those of the residues n
+--   residue-record-bytes, residue-record-length, residue-record-reads, residue-record-ideal    it is bytes, of the kind's length, accepted, with their ideal
 use mathlib.Core.Path.{_≡_, refl, sym, ap, ap₂, _∙_, subst}
 use mathlib.Core.Logic.{_↔_, Iff·trans, Iff·symm}
 use mathlib.Core.List.{List, [], _∷_}
@@ -76,8 +76,8 @@ upto-below b zero f pos h i = pos
 upto-below b (suc c) f pos h zero = h 0
 upto-below b (suc c) f pos h (suc i) = upto-below b c (λ j. f (suc j)) pos (λ j. h (suc j)) i
 
-unfoldable pub record-of : (p : ℕ) → Kind → (ℕ → Z p .Car) → List ℕ
-record-of p κ n = record-bytes (code κ) (upto (count κ) (λ i. num p (n i)))
+unfoldable pub residue-record : (p : ℕ) → Kind → (ℕ → Z p .Car) → List ℕ
+residue-record p κ n = record-bytes (code κ) (upto (count κ) (λ i. num p (n i)))
 
 module _ (p : ℕ) (C : Curve (Z p)) (pos : 0 < p) (fits : p ≤ 4294967296) (κ : Kind) (n : ℕ → Z p .Car) where
   list : List ℕ
@@ -91,23 +91,23 @@ module _ (p : ℕ) (C : Curve (Z p)) (pos : 0 < p) (fits : p ≤ 4294967296) (κ
   unfolding list
   list-residue i h = sym (el-num p (n i)) ∙ ap (el p) (sym (getD-upto (count κ) (λ j. num p (n j)) i h))
 
-  pub record-of-bytes : Bytes (record-of p κ n)
-  unfolding record-of
-  record-of-bytes = bytes-record (code κ) (upto (count κ) (λ i. num p (n i)))
+  pub residue-record-bytes : Bytes (residue-record p κ n)
+  unfolding residue-record
+  residue-record-bytes = bytes-record (code κ) (upto (count κ) (λ i. num p (n i)))
 
-  pub record-of-length : length (record-of p κ n) ≡ size κ
-  unfolding record-of
-  record-of-length = written-length κ (upto (count κ) (λ i. num p (n i))) (length-upto (count κ) (λ i. num p (n i)))
+  pub residue-record-length : length (residue-record p κ n) ≡ size κ
+  unfolding residue-record
+  residue-record-length = written-length κ (upto (count κ) (λ i. num p (n i))) (length-upto (count κ) (λ i. num p (n i)))
 
-  pub record-of-reads : IsBasis C κ n → Reads p C κ (record-of p κ n)
-  unfolding record-of list
-  record-of-reads b =
+  pub residue-record-reads : IsBasis C κ n → Reads p C κ (residue-record p κ n)
+  unfolding residue-record list
+  residue-record-reads b =
       written-reads κ list (length-upto (count κ) (λ i. num p (n i))) p C list-words (λ i h. upto-below p (count κ) (λ j. num p (n j)) pos (λ j. num-lt p (n j) pos) i)
       (basis-same C n (λ i. el p (getD list i 0)) κ list-residue b)
 
-  pub record-of-ideal : SameIdeal (Coordinate C) (IdealOfBytes p C (record-of p κ n)) (IdealOf C κ n)
-  unfolding record-of list
-  record-of-ideal g =
+  pub residue-record-ideal : SameIdeal (Coordinate C) (IdealOfBytes p C (residue-record p κ n)) (IdealOf C κ n)
+  unfolding residue-record list
+  residue-record-ideal g =
       Iff·trans
       (written-ideal κ list (length-upto (count κ) (λ i. num p (n i))) p C list-words g)
       (Iff·symm (ideal-same C n (λ i. el p (getD list i 0)) κ list-residue g))

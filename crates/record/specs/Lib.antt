@@ -4,3 +4,4 @@ pub mod Curve
 pub mod Divisor
 pub mod Listed
 pub mod Value
+pub mod Contract

@@ -1,1 +1,178 @@
-// stub
+// Curve and divisor records in bytes: reading, refusing and writing. specs/ says what is accepted and what is refused.
+use basis::Divisor;
+ghost use mathlib.Core.Path.{_≡_};
+ghost use mathlib.Core.List.{[], _∷_};
+ghost use Prim.Native.Nat.{_≤_};
+ghost use Rattle.basis.specs.Divisor.{numbers};
+ghost use Rattle.record.specs.Contract.{Answers, Checked, Sized, Known, Counted, AllBelow, Word, ValueOf, WriteAsked, WriteAnswer, curve-form, divisor-form};
+
+// Is the length field that of the bytes given?
+fn sized(s: &[u8]) -> bool
+    ensures { λ r. ⌜ Answers (Sized (now (s .entry))) r ⌝ }
+{
+    if s.len() < 4 {
+        return false;
+    }
+    let own = layout::read_u16(s, 0) as usize;
+    if own == s.len() {
+        return true;
+    }
+    false
+}
+
+// The refusal of a curve for its size, its kind or its kind's length; 0 for none.
+fn curve_form(s: &[u8]) -> u32
+    ensures { λ r. ⌜ Checked (curve-form (now (s .entry))) r ⌝ }
+{
+    if !sized(s) {
+        return 1;
+    }
+    let kind = layout::read_u16(s, 2);
+    if kind != 34 {
+        return 2;
+    }
+    if s.len() != 44 {
+        return 1;
+    }
+    0
+}
+
+// Is this the number of a divisor kind?
+fn is_kind(kind: u32) -> bool
+    ensures { λ r. ⌜ Answers (Known kind) r ⌝ }
+{
+    if kind == 0 {
+        return true;
+    }
+    if kind == 11 {
+        return true;
+    }
+    if kind == 21 {
+        return true;
+    }
+    if kind == 22 {
+        return true;
+    }
+    if kind == 31 {
+        return true;
+    }
+    false
+}
+
+// How many numbers a record of this kind has.
+fn count_of(kind: u32) -> usize
+    ensures { λ r. ⌜ Counted kind r ⌝ }
+{
+    if kind == 0 {
+        return 0;
+    }
+    if kind == 11 {
+        return 2;
+    }
+    if kind == 21 {
+        return 4;
+    }
+    if kind == 22 {
+        return 3;
+    }
+    9
+}
+
+// The refusal of a divisor for its size, its kind or its kind's length; 0 for none.
+fn divisor_form(s: &[u8]) -> u32
+    ensures { λ r. ⌜ Checked (divisor-form (now (s .entry))) r ⌝ }
+{
+    if !sized(s) {
+        return 6;
+    }
+    let kind = layout::read_u16(s, 2);
+    if !is_kind(kind) {
+        return 7;
+    }
+    let size = 4 + 4 * count_of(kind);
+    if s.len() != size {
+        return 6;
+    }
+    0
+}
+
+// The four-byte number at place `at`, 0 if it is not whole.
+fn word(s: &[u8], at: usize) -> u32
+    requires { ⌜ at ≤ 40 ⌝ }
+    ensures { λ r. ⌜ Word (now (s .entry)) at r ⌝ }
+{
+    if at + 4 <= s.len() {
+        return layout::read_u32(s, at);
+    }
+    0
+}
+
+// The kind and the numbers of a divisor record.
+fn value(s: &[u8]) -> Divisor
+    requires { do ⌜ 4 ≤ (← ⟦s.len()⟧) ⌝ }
+    ensures { λ r. ⌜ ValueOf (now (s .entry)) r ⌝ }
+{
+    Divisor {
+        kind: layout::read_u16(s, 2),
+        n0: word(s, 4),
+        n1: word(s, 8),
+        n2: word(s, 12),
+        n3: word(s, 16),
+        n4: word(s, 20),
+        n5: word(s, 24),
+        n6: word(s, 28),
+        n7: word(s, 32),
+        n8: word(s, 36),
+    }
+}
+
+// Are the three numbers below p?
+fn three_below(p: u32, a: u32, b: u32, c: u32) -> bool
+    ensures { λ r. ⌜ Answers (AllBelow p (a ∷ b ∷ c ∷ [])) r ⌝ }
+{
+    if p <= a {
+        return false;
+    }
+    if p <= b {
+        return false;
+    }
+    if p <= c {
+        return false;
+    }
+    true
+}
+
+// Are all numbers of a divisor below p?
+fn all_below(p: u32, r: Divisor) -> bool
+    ensures { λ b. ⌜ Answers (AllBelow p (numbers r)) b ⌝ }
+{
+    if !three_below(p, r.n0, r.n1, r.n2) {
+        return false;
+    }
+    if !three_below(p, r.n3, r.n4, r.n5) {
+        return false;
+    }
+    three_below(p, r.n6, r.n7, r.n8)
+}
+
+// Writes the record of a divisor at the start of `out`, and returns its length.
+pub fn write_divisor(r: Divisor, out: &mut [u8]) -> usize
+    requires { ⌜ WriteAsked r (now out) ⌝ }
+    ensures { λ n. ⌜ WriteAnswer r (now (out .entry)) (now (out .exit)) n ⌝ }
+{
+    let count = count_of(r.kind);
+    layout::write_record(
+        out,
+        r.kind,
+        count,
+        r.n0,
+        r.n1,
+        r.n2,
+        r.n3,
+        r.n4,
+        r.n5,
+        r.n6,
+        r.n7,
+        r.n8,
+    )
+}

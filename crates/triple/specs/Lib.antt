@@ -2,3 +2,4 @@
 pub mod Setting
 pub mod Triple
 pub mod Contract
+pub mod Equation

@@ -1,7 +1,9 @@
 // Triples of vectors over k[x]: the j-th member is monic with a degree that is j modulo 3, or absent (all zero, with the
 // degree 26). A triple stands for the span of its members over k[x].
 ghost use mathlib.Core.Path.{_≡_};
-ghost use Rattle.triple.specs.Contract.{InsertAsked, Inserted, TurnAsked, Turned, ReduceAsked, Rest, ClosedAsked, ClosedTest, ProductAsked, Multiplied, AllAsked, AllInserted, WholeTest};
+ghost use Rattle.triple.specs.Contract.{InsertAsked, Inserted, TurnAsked, Turned, ReduceAsked, Rest, ClosedAsked, ClosedTest, AtAsked, AtTest, ProductAsked, Multiplied, PutAsked, Put, AllAsked, AllInserted, WholeTest};
+
+pub mod equation;
 
 // v, which is below top, is put into the triple; v is used up.
 pub fn insert(p: u32, t: &mut [[u32; 26]; 3], d: &mut [usize; 3], v: &mut [u32; 26], top: usize)
@@ -73,7 +75,10 @@ pub fn closed(p: u32, f: &[u32; 26], t: &[[u32; 26]; 3], d: &[usize; 3]) -> bool
 }
 
 // Is y times the j-th member in the span?
-fn closed_at(p: u32, f: &[u32; 26], t: &[[u32; 26]; 3], d: &[usize; 3], j: usize) -> bool {
+fn closed_at(p: u32, f: &[u32; 26], t: &[[u32; 26]; 3], d: &[usize; 3], j: usize) -> bool
+    requires { ⌜ AtAsked p (now f) (now t) (now d) j ⌝ }
+    ensures { λ r. ⌜ AtTest p (now (f .entry)) (now (t .entry)) (now (d .entry)) j r ⌝ }
+{
     let e = d[j];
     let mut v = vector::times_y(p, f, &t[j], e + 1);
     reduce(p, t, d, &mut v, e + 5);
@@ -82,7 +87,16 @@ fn closed_at(p: u32, f: &[u32; 26], t: &[[u32; 26]; 3], d: &[usize; 3], j: usize
 
 // The triple (t, d) becomes that of the product of two triples' spans. The products with the second triple's member of
 // class 0 come first: they are monic and fill the three classes.
-pub fn product(p: u32, f: &[u32; 26], t1: &[[u32; 26]; 3], d1: &[usize; 3], t2: &[[u32; 26]; 3], d2: &[usize; 3], t: &mut [[u32; 26]; 3], d: &mut [usize; 3])
+pub fn product(
+    p: u32,
+    f: &[u32; 26],
+    t1: &[[u32; 26]; 3],
+    d1: &[usize; 3],
+    t2: &[[u32; 26]; 3],
+    d2: &[usize; 3],
+    t: &mut [[u32; 26]; 3],
+    d: &mut [usize; 3],
+)
     requires { ⌜ ProductAsked p (now f) (now t1) (now d1) (now t2) (now d2) ⌝ }
     ensures { λ _. ⌜ Multiplied p (now (f .entry)) (now (t1 .entry)) (now (t2 .entry)) (now (t .exit)) (now (d .exit)) ⌝ }
 {
@@ -98,7 +112,18 @@ pub fn product(p: u32, f: &[u32; 26], t1: &[[u32; 26]; 3], d1: &[usize; 3], t2: 
 }
 
 // The products of the members of t1 with one element, of which ys are the y-multiples, are put into the triple (t, d).
-fn insert_products(p: u32, t1: &[[u32; 26]; 3], d1: &[usize; 3], ys: &[[u32; 26]; 3], top: usize, t: &mut [[u32; 26]; 3], d: &mut [usize; 3]) {
+fn insert_products(
+    p: u32,
+    t1: &[[u32; 26]; 3],
+    d1: &[usize; 3],
+    ys: &[[u32; 26]; 3],
+    top: usize,
+    t: &mut [[u32; 26]; 3],
+    d: &mut [usize; 3],
+)
+    requires { ⌜ PutAsked p (now t1) (now d1) (now ys) top (now t) (now d) ⌝ }
+    ensures { λ _. ⌜ Put p (now (t1 .entry)) (now (ys .entry)) (now (t .entry)) (now (t .exit)) (now (d .exit)) ⌝ }
+{
     let mut i = 0;
     while i < 3 {
         let e = d1[i];
@@ -109,7 +134,13 @@ fn insert_products(p: u32, t1: &[[u32; 26]; 3], d1: &[usize; 3], ys: &[[u32; 26]
 }
 
 // The three vectors ys, the j-th below top + 4·j, are put into the triple, until it is that of the whole ring.
-pub fn insert_all(p: u32, t: &mut [[u32; 26]; 3], d: &mut [usize; 3], ys: &[[u32; 26]; 3], top: usize)
+pub fn insert_all(
+    p: u32,
+    t: &mut [[u32; 26]; 3],
+    d: &mut [usize; 3],
+    ys: &[[u32; 26]; 3],
+    top: usize,
+)
     requires { ⌜ AllAsked p (now t) (now d) (now ys) top ⌝ }
     ensures { λ _. ⌜ AllInserted p (now (t .entry)) (now (d .entry)) (now (ys .entry)) (now (t .exit)) (now (d .exit)) ⌝ }
 {
@@ -128,5 +159,11 @@ pub fn insert_all(p: u32, t: &mut [[u32; 26]; 3], d: &mut [usize; 3], ys: &[[u32
 pub fn whole(d: &[usize; 3]) -> bool
     ensures { λ r. ⌜ WholeTest (now (d .entry)) r ⌝ }
 {
-    d[0] == 0 && d[1] == 4 && d[2] == 8
+    if d[0] != 0 {
+        return false;
+    }
+    if d[1] != 4 {
+        return false;
+    }
+    d[2] == 8
 }

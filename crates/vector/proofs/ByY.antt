@@ -8,7 +8,7 @@
 use mathlib.Core.Path.{_≡_, refl, sym, _∙_, ap, ap₂, subst}
 use mathlib.Core.List.{List}
 use mathlib.Core.Logic.{_⊎_, inl, inr, ⊎-elim}
-use Prim.Native.Nat.{ℕ, zero, suc, _+_, _*_, _-_, _/_, _%_, _≤_, _<_}
+use Prim.Native.Nat.{ℕ, zero, suc, _+_, _-_, _/_, _%_, _≤_, _<_}
 use native.Mathlib.Omega.{arith}
 use native.Mathlib.Decide.{decLt}
 use Rattle.algebra.specs.Ring.{CommRing}
@@ -23,7 +23,7 @@ use Rattle.curve.specs.Pole.{pole}
 use Rattle.curve.specs.Monomial.{power}
 use Rattle.vector.specs.Vector.{Vec, Top, at, res, element, x-to, y-to, scalar}
 use Rattle.vector.specs.Contract.{Added, AxpyAsked, Shifted, Cube, TimesYAsked, TimesY}
-use Rattle.vector.proofs.Monomial.{flat-0, flat-1, flat-2}
+use Rattle.curve.proofs.Monomial.{at-y-0-straight, at-y-1-straight, at-y-2-straight}
 use Rattle.vector.proofs.Element.{element-at, added-value}
 use Rattle.vector.proofs.Portion.{portion, portion-in, portion-out, portion-all, portion-step}
 
@@ -101,15 +101,15 @@ module _ {v r : List ℕ} {top : ℕ} (s : Shifted v top r) where
           element-at p C r i 0 l
           ∙ ap (el p) (empty (pole i 0) (omega arith) (decLt (pole i 0) 4))
           ∙ el-zero p
-          ∙ sym (flat-0 C g flat i)
+          ∙ sym (at-y-0-straight C g flat i)
       go i (suc zero) l =
           element-at p C r i 1 l
           ∙ moved-at (pole i 0) (pole i 1) (omega arith) (omega arith)
-          ∙ sym (flat-1 C g flat i ∙ low i 0 (omega arith) (omega arith))
+          ∙ sym (at-y-1-straight C g flat i ∙ low i 0 (omega arith) (omega arith))
       go i (suc (suc zero)) l =
           element-at p C r i 2 l
           ∙ moved-at (pole i 1) (pole i 2) (omega arith) (omega arith)
-          ∙ sym (flat-2 C g flat i ∙ low i 1 (omega arith) (omega arith))
+          ∙ sym (at-y-2-straight C g flat i ∙ low i 1 (omega arith) (omega arith))
       go i (suc (suc (suc j))) l = absurd (omega arith)
 
 pub record YPart (p : ℕ) (f v : List ℕ) (top n : ℕ) (r : List ℕ) : Type 0 where

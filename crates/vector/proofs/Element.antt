@@ -5,26 +5,27 @@
 --   element-zero                   the zero vector's element is zero
 --   element-scale                  residues that are c times those of v
 --   added-value                    what axpy does to the element
-use mathlib.Core.Path.{_≡_, refl, sym, _∙_, ap, ap₂, subst}
-use mathlib.Core.List.{List, [], _∷_}
-use Prim.Native.Nat.{ℕ, zero, suc, _+_, _*_, _-_, _/_, _%_, _≤_, _<_}
+use mathlib.Core.Path.{_≡_, sym, _∙_, ap, ap₂}
+use mathlib.Core.List.{List}
+use Prim.Native.Nat.{ℕ, zero, _+_, _*_, _-_, _/_, _%_, _≤_, _<_}
 use native.Mathlib.Omega.{arith}
 use native.Mathlib.Decide.{decLt}
 use lib.ListN.{length}
 use Rattle.algebra.specs.Ring.{CommRing}
 use Rattle.algebra.proofs.Laws as L
-use Rattle.ideal.specs.Poles.{IsGap, IsPole}
+use Rattle.ideal.specs.Poles.{IsPole}
 use Rattle.field.specs.Residue.{Z, el}
 use Rattle.field.specs.Element.{el-zero}
 use Rattle.curve.specs.Curve.{Curve, Coordinate, constant}
 use Rattle.curve.specs.Curve as K
 use Rattle.curve.specs.Pole.{pole, Located, place, gap, locate, pole-is-pole}
-use Rattle.curve.specs.Monomial.{coefficient, vector}
-use Rattle.curve.specs.Term.{coefficient-pole, coefficient-gap, coefficient-ext, coefficient-zero, coefficient-add, coefficient-constant-mul, coefficient-vector}
-use Rattle.vector.specs.Vector.{Vec, Top, at, res, element, past-end, x-to, scalar, width}
+use Rattle.curve.specs.Monomial.{coefficient}
+use Rattle.curve.specs.Term.{coefficient-pole, coefficient-gap, coefficient-ext, coefficient-add, coefficient-constant-mul, coefficient-vector}
+use Rattle.curve.proofs.Vector.{vector-same, vector-zero, vector-scale}
+use Rattle.vector.specs.Vector.{Vec, Top, at, res, element, past-end, x-to, scalar}
 use Rattle.vector.specs.Contract.{Added}
 use Rattle.vector.proofs.Loop.{gap-zero}
-use Rattle.vector.proofs.Monomial.{shift-high, shift-low, vector-same}
+use Rattle.vector.proofs.Monomial.{shift-high, shift-low}
 
 module _ (p : ℕ) (C : Curve (Z p)) where
   open CommRing (Z p) using (Car, zero as 𝟘, one as 𝟙, add as _+ₖ_, mul as _·ₖ_, neg as -ₖ_)
@@ -48,24 +49,17 @@ module _ (p : ℕ) (C : Curve (Z p)) where
 
   pub element-same : (v w : List ℕ) → ((n : ℕ) → IsPole n → res p v n ≡ res p w n) → element p C v ≡ element p C w
   unfolding element
-  element-same v w e =
-      vector-same C (res p v) (res p w) (length v) (length w) (past-end p v) (past-end p w) e
+  element-same v w e = vector-same C (res p v) (length v) (past-end p v) (res p w) (length w) (past-end p w) e
 
   pub element-zero : (v : List ℕ) → Top v 0 → element p C v ≡ 𝟎
   unfolding element
-  element-zero v t = coefficient-ext C (λ n. go n (locate n) ∙ sym (coefficient-zero C n))
-    where
-      go : (n : ℕ) → Located n → coefficient C n (vector C (res p v) (length v) (past-end p v)) ≡ 𝟘
-      go n (place i j l e) =
-          ap (λ m. coefficient C m (vector C (res p v) (length v) (past-end p v))) e
-          ∙ coefficient-vector C (res p v) (length v) (past-end p v) (pole i j) (pole-is-pole i j l)
-          ∙ ap (el p) (t (pole i j) (omega arith))
-          ∙ el-zero p
-      go n (gap q) = coefficient-gap C n q _
+  element-zero v t =
+      sym (vector-zero C (res p v) (length v) (past-end p v) (λ n q. ap (el p) (t n (omega arith)) ∙ el-zero p))
 
-  pub element-scale : {v w : List ℕ} (c : Car) → Vec p v → Vec p w → ((n : ℕ) → res p w n ≡ c ·ₖ res p v n) → element p C w ≡ constant C c ⊗ element p C v
-  element-scale {v} {w} c h h′ e =
-      coefficient-ext C (λ n. element-coefficient h′ n ∙ e n ∙ sym (coefficient-constant-mul C n c (element p C v) ∙ ap (λ u. c ·ₖ u) (element-coefficient h n)))
+  pub element-scale : (v w : List ℕ) (c : Car) → ((n : ℕ) → res p w n ≡ c ·ₖ res p v n) → element p C w ≡ constant C c ⊗ element p C v
+  unfolding element
+  element-scale v w c e =
+      sym (vector-scale C (res p v) (length v) (past-end p v) (res p w) (length w) (past-end p w) c (λ n q. e n))
 
   pub added-value : {c s e : ℕ} {r b r′ : List ℕ} → Vec p r → Vec p b → s % 3 ≡ 0 → Added p r c b s e r′ → Top b e → element p C r′ ≡ element p C r ⊕ (scalar p C c ⊗ x-to p C (s / 3)) ⊗ element p C b
   added-value {c} {s} {e} {r} {b} {r′} hr hb z a t =

@@ -2,9 +2,9 @@
 --   cleared            what clear's store after axpy gives
 --   made-monic         what make_monic's store after scale gives
 --   already-monic      a vector with the lead 1 is left alone
-use mathlib.Core.Path.{_≡_, refl, sym, _∙_, ap, ap₂, subst}
+use mathlib.Core.Path.{_≡_, refl, sym, _∙_, ap, ap₂}
 use mathlib.Core.List.{List}
-use Prim.Native.Nat.{ℕ, zero, suc, _+_, _*_, _-_, _/_, _%_, _≤_, _<_}
+use Prim.Native.Nat.{ℕ, zero, suc, _+_, _-_, _/_, _<_}
 use native.Mathlib.Omega.{arith}
 use native.Mathlib.Decide.{decLt}
 use lib.ListN.{length, set}
@@ -12,15 +12,14 @@ use Rattle.algebra.specs.Ring.{CommRing}
 use Rattle.algebra.proofs.Laws as L
 use Rattle.algebra.proofs.Solve.{solve, _⊞_, _⊠_, ⊟_}
 use Rattle.ideal.specs.Poles.{IsGap}
-use Rattle.prime.specs.Prime.{Prime}
 use Rattle.field.specs.Residue.{Z, el}
 use Rattle.field.specs.Element.{el-zero, el-one, el-pos}
 use Rattle.field.specs.Inverse.{inverse}
-use Rattle.field.specs.Field.{F, prime-large, one-not-zero, inverse-unique}
+use Rattle.field.specs.Field.{F, prime-large, inverse-unique}
 use Rattle.field.specs.Contract.{Is}
 use Rattle.curve.specs.Curve.{Curve, Coordinate, constant}
 use Rattle.curve.specs.Coefficient.{constant-one, constant-neg, constant-mul}
-use Rattle.vector.specs.Vector.{Vec, Top, at, res, element, x-to, scalar, width}
+use Rattle.vector.specs.Vector.{Vec, Top, at, res, element, x-to, scalar}
 use Rattle.vector.specs.Contract.{Added, ClearAsked, Cleared, MonicAsked, MadeMonic, Scaled}
 use Rattle.vector.proofs.Loop.{gap-zero, set-cases, vec-set}
 use Rattle.vector.proofs.Element.{element-scale, added-value}
@@ -82,7 +81,7 @@ module _ {p m : ℕ} {v : List ℕ} (h : MonicAsked p v m) where
   over-lead {v′} k o t e = record { vec = k; monic = o; top = t; value = value; back = back }
     where
       value : (C : Curve (Z p)) → element p C v′ ≡ Coordinate C .mul (constant C (inverse p (res p v m))) (element p C v)
-      value C = element-scale p C (inverse p (res p v m)) (h .vec) k e
+      value C = element-scale p C v v′ (inverse p (res p v m)) e
 
       back : (C : Curve (Z p)) → element p C v ≡ Coordinate C .mul (scalar p C (at v m)) (element p C v′)
       back C =

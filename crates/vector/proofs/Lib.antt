@@ -1,4 +1,4 @@
--- Laws of the loops on vectors.
+-- What the loops on vectors do, and what that means for the elements that the vectors stand for.
 pub mod Loop
 pub mod Monomial
 pub mod Element

@@ -5,7 +5,7 @@
 --   portion-none       with none it is zero
 --   portion-same       it depends on the pole numbers n with K n only
 --   portion-step       one more pole number adds a multiple of x^i·y^j
-use mathlib.Core.Path.{_≡_, refl, sym, _∙_, ap, ap₂}
+use mathlib.Core.Path.{_≡_, refl, sym, _∙_, ap}
 use mathlib.Core.List.{List}
 use Prim.Native.Nat.{ℕ, _≤_}
 use lib.ListN.{length}
@@ -15,11 +15,12 @@ use Rattle.field.specs.Residue.{Z, el}
 use Rattle.field.specs.Element.{el-zero}
 use Rattle.curve.specs.Curve.{Curve, Coordinate}
 use Rattle.curve.specs.Curve as K
-use Rattle.curve.specs.Pole.{pole, Located, place, gap, locate, pole-is-pole}
-use Rattle.curve.specs.Monomial.{coefficient, vector}
-use Rattle.curve.specs.Term.{coefficient-pole, coefficient-gap, coefficient-ext, coefficient-zero, coefficient-vector}
+use Rattle.curve.specs.Pole.{pole, pole-is-pole}
+use Rattle.curve.specs.Monomial.{vector}
+use Rattle.curve.specs.Term.{coefficient-pole, coefficient-vector}
+use Rattle.curve.proofs.Vector.{vector-same, vector-zero}
 use Rattle.vector.specs.Vector.{at, res, element, past-end, x-to, y-to, scalar}
-use Rattle.vector.proofs.Monomial.{vector-same, vector-step}
+use Rattle.vector.proofs.Monomial.{vector-step}
 
 -- u if A holds and else v
 choose : {A X : Type 0} → Dec A → X → X → X
@@ -85,27 +86,20 @@ module _ (p : ℕ) (C : Curve (Z p)) (v : List ℕ) where
     pub portion-all : ((n : ℕ) → ¬ S n → at v n ≡ 0) → portion ≡ element p C v
     unfolding portion kept element
     portion-all h =
-        vector-same C kept (res p v) (length v) (length v) kept-past (past-end p v) (λ n q. choose-all (d n) _ _ (λ s. ap (el p) (h n s) ∙ el-zero p))
+        vector-same C kept (length v) kept-past (res p v) (length v) (past-end p v) (λ n q. choose-all (d n) _ _ (λ s. ap (el p) (h n s) ∙ el-zero p))
 
     pub portion-none : ((n : ℕ) → ¬ S n) → portion ≡ 𝟎
     unfolding portion kept
-    portion-none h = coefficient-ext C (λ n. go n (locate n) ∙ sym (coefficient-zero C n))
-      where
-        go : (n : ℕ) → Located n → coefficient C n (vector C kept (length v) kept-past) ≡ Z p .zero
-        go n (place i j l e) =
-            ap (λ m. coefficient C m (vector C kept (length v) kept-past)) e
-            ∙ coefficient-vector C kept (length v) kept-past (pole i j) (pole-is-pole i j l)
-            ∙ choose-no (d (pole i j)) _ _ (h (pole i j))
-        go n (gap q) = coefficient-gap C n q _
+    portion-none h = sym (vector-zero C kept (length v) kept-past (λ n q. choose-no (d n) _ _ (h n)))
 
   module _ (S : ℕ → Type 0) (d : (n : ℕ) → Dec (S n)) (S′ : ℕ → Type 0) (d′ : (n : ℕ) → Dec (S′ n)) where
     pub portion-same : ((n : ℕ) → IsPole n → S n → S′ n) → ((n : ℕ) → IsPole n → S′ n → S n) → portion S d ≡ portion S′ d′
     unfolding portion kept
     portion-same f g =
-        vector-same C (kept S d) (kept S′ d′) (length v) (length v) (kept-past S d) (kept-past S′ d′) (λ n q. choose-both (d n) (d′ n) _ _ (f n q) (g n q))
+        vector-same C (kept S d) (length v) (kept-past S d) (kept S′ d′) (length v) (kept-past S′ d′) (λ n q. choose-both (d n) (d′ n) _ _ (f n q) (g n q))
 
     pub portion-step : (i j : ℕ) → j ≤ 2 → ¬ S (pole i j) → S′ (pole i j) → ((n : ℕ) → S n → S′ n) → ((n : ℕ) → ¬ (n ≡ pole i j) → S′ n → S n) → portion S′ d′ ≡ portion S d ⊕ scalar p C (at v (pole i j)) ⊗ (x-to p C i ⊗ y-to p C j)
     unfolding portion kept
     portion-step i j l h h′ f g =
-        vector-step C (kept S d) (kept S′ d′) (length v) (length v) (kept-past S d) (kept-past S′ d′) i j l (choose-no (d (pole i j)) _ _ h) (λ n q e. choose-both (d′ n) (d n) _ _ (g n e) (f n))
+        vector-step C (kept S d) (length v) (kept-past S d) (kept S′ d′) (length v) (kept-past S′ d′) i j l (choose-no (d (pole i j)) _ _ h) (λ n q e. choose-both (d′ n) (d n) _ _ (g n e) (f n))
         ∙ ap (λ c. portion S d ⊕ K.constant C c ⊗ (x-to p C i ⊗ y-to p C j)) (choose-yes (d′ (pole i j)) _ _ h′)

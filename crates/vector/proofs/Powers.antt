@@ -1,6 +1,6 @@
 -- The vectors of v, y·v and y²·v.
 --   y-rows             two multiplications by y give them
-use mathlib.Core.Path.{_≡_, refl, sym, _∙_, ap}
+use mathlib.Core.Path.{_≡_, refl, _∙_, ap}
 use mathlib.Core.List.{List, [], _∷_}
 use Prim.Native.Nat.{ℕ, zero, suc, _+_, _*_, _<_}
 use native.Mathlib.Omega.{arith}
@@ -11,7 +11,7 @@ use Rattle.field.specs.Residue.{Z}
 use Rattle.curve.specs.Curve.{Curve, Coordinate, y}
 use Rattle.curve.specs.Monomial.{power}
 use Rattle.vector.specs.Vector.{Vec, Top, row, element, y-to}
-use Rattle.vector.specs.Contract.{Cube, TimesY, Rows, RowsOf, YMultiplesAsked, YMultiples}
+use Rattle.vector.specs.Contract.{Cube, TimesY, YMultiplesAsked, YMultiples}
 
 once : (R : CommRing) (y g : R .Car) → R .mul y g ≡ R .mul (R .mul y (R .one)) g
 once R = solve R 2 (λ y g. y ⊠ g) (λ y g. y ⊠ unit ⊠ g) tt

@@ -3,9 +3,9 @@
 --   TimesPart          the loop's invariant
 --   part-start part-more part-skip part-end       its start, its two ways of a turn and its end
 use mathlib.Core.Path.{_≡_, refl, sym, _∙_, ap, ap₂, subst}
-use mathlib.Core.List.{List, []}
-use mathlib.Core.Logic.{_⊎_, inl, inr}
-use Prim.Native.Nat.{ℕ, zero, suc, _+_, _*_, _-_, _/_, _%_, _≤_, _<_}
+use mathlib.Core.List.{List}
+use mathlib.Core.Logic.{inl, inr}
+use Prim.Native.Nat.{ℕ, _+_, _*_, _-_, _/_, _%_, _≤_, _<_}
 use native.Mathlib.Omega.{arith}
 use native.Mathlib.Decide.{ℕ-discrete, decLt}
 use lib.ListN.{replicate}
@@ -17,7 +17,7 @@ use Rattle.field.specs.Residue.{Z}
 use Rattle.curve.specs.Curve.{Curve, Coordinate}
 use Rattle.curve.specs.Pole.{pole}
 use Rattle.vector.specs.Vector.{Vec, Top, at, row, element, x-to, y-to, scalar}
-use Rattle.vector.specs.Contract.{Added, AxpyAsked, Rows, RowsOf, TimesAsked, Times}
+use Rattle.vector.specs.Contract.{Added, AxpyAsked, RowsOf, TimesAsked, Times}
 use Rattle.vector.proofs.Loop.{zeros-at}
 use Rattle.vector.proofs.Element.{element-zero, added-value}
 use Rattle.vector.proofs.Portion.{portion, portion-all, portion-none, portion-same, portion-step}

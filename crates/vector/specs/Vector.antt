@@ -5,6 +5,7 @@
 --   res p v n          its residue modulo p
 --   Vec p v            v is a vector: 26 numbers below p, 0 at the gaps 1, 2 and 5
 --   Top v n            v is 0 from place n on
+--   past-end           past the end the residue is zero
 --   element p C v      the element of C's coordinate ring with the coefficient v[n] at the normal monomial of pole number n
 --   row t j            the j-th vector of an array of vectors
 --   x-to p C k, y-to p C j   powers of x and y
@@ -13,7 +14,6 @@ use mathlib.Core.Path.{_≡_, _∙_, ap}
 use mathlib.Core.List.{List, []}
 use Prim.Native.Nat.{ℕ, _<_, _≤_}
 use lib.ListN.{length, getD, List·getD-eq-default}
-use Rattle.algebra.specs.Ring.{CommRing}
 use Rattle.field.specs.Residue.{Z, el}
 use Rattle.field.specs.Element.{el-zero}
 use Rattle.curve.specs.Curve.{Curve, Coordinate, x, y, constant}

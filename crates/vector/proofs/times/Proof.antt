@@ -34,7 +34,7 @@ add-axpy : tie.Need-add-axpy Inv-loop μ-loop
 add-axpy c = omega arith
 
 axpy-requires : tie.Need-axpy-requires Inv-loop μ-loop
-axpy-requires c κs = part-asked (c .before .before .before .before .before .before .pre) (c .before .before .before .before .before .loop .inv .0) (c .before .before .before .before .loop-test .taken) (c .before .before .before .if1 .taken)
+axpy-requires c κs = part-asked (c .before .before .before .before .before .before .pre) (c .before .before .before .before .before .loop .inv .0) (c .before .before .before .before .loop-test .taken) (omega arith)
 
 add-n : tie.Need-add-n Inv-loop μ-loop
 add-n c = omega arith
@@ -43,7 +43,7 @@ loop-less : tie.Need-loop-less Inv-loop μ-loop
 loop-less c = omega arith
 
 loop-again : tie.Need-loop-again Inv-loop μ-loop
-loop-again c = (⊎-elim (λ w. part-as (w .5) (part-more (c .before .before .before .pre) (c .before .before .loop .inv .0) (c .before .loop-test .taken) (w .0 .taken) (w .4 .ensures))) (λ w. part-as (w .1) (part-skip (c .before .before .before .pre) (c .before .before .loop .inv .0) (c .before .loop-test .taken) (omega (arith, w .0 .left)))) (c .if1 .came), omega arith)
+loop-again c = (⊎-elim (λ w. part-as (w .5) (part-more (c .before .before .before .pre) (c .before .before .loop .inv .0) (c .before .loop-test .taken) (omega (arith, w .0 .taken)) (w .4 .ensures))) (λ w. part-as (w .1) (part-skip (c .before .before .before .pre) (c .before .before .loop .inv .0) (c .before .loop-test .taken) (omega (arith, w .0 .left)))) (c .if1 .came), omega arith)
 
 returns : tie.Need-returns Inv-loop μ-loop
 returns c = part-end (c .before .before .pre) (c .before .loop .inv .0) (omega arith)

@@ -1,0 +1,36 @@
+-- layout::write_record writes the record of the kind's count.
+use borrow.Author.Needs.{needs}
+use native.Mathlib.Omega.{arith}
+use mathlib.Core.Path.{ap, _∙_}
+use Prim.Native.Nat.{ℕ, _+_, _*_}
+use denote.Ref.{now}
+use Rattle.record.proofs.Codes.{code-small}
+use Rattle.record.proofs.Answer.{written-bytes}
+use Rattle.record.proofs.write_divisor.Statement.{statement}
+use Rattle.record.proofs.write_divisor.Tie as tie
+
+count-of-requires : tie.Need-count-of-requires
+count-of-requires c κs = search needs
+
+write-record-requires : tie.Need-write-record-requires
+write-record-requires c κs =
+    let p = c .before .before .before .pre in
+    let k = c .before .count-of .ensures in
+    (k .small, (omega (arith, code-small (p .kind), p .is), omega (arith, k .is (p .kind) (p .is), p .room)))
+
+same-length : tie.Need-same-length
+same-length c = search needs
+
+returns : tie.Need-returns
+returns c = λ κ e.
+    let a = c .before .before .before .before .before .before .args in
+    let w = c .before .before .write-record .ensures in
+    let n = c .before .before .before .before .count-of .ensures .is κ e in
+    record {
+      long = w .0 ∙ ap (λ (m : ℕ). 4 + 4 * m) n;
+      bytes = written-bytes (a .r) κ (a .r .kind) (c .before .before .before .before .count-of .result) (now (a .out)) (c .before .before .write-record .last .0) e n (w .1);
+    }
+
+pub write-divisor-spec : {M : Type 1} → statement M
+write-divisor-spec =
+    tie.close (tie.spec count-of-requires write-record-requires same-length returns)

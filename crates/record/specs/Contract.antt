@@ -1,0 +1,74 @@
+-- What the functions on records require and ensure.
+--   Answers A b            b is true exactly if A holds
+--   Checked ss n           n is 0 if every stage of ss is passed, else the number of the first cause
+--   curve-form s           the first stages of a curve: its size, its kind and the kind's length
+--   divisor-form s         the same of a divisor
+--   Known kind             kind is the number of a divisor kind
+--   Counted kind n         n is how many numbers a record of this kind has
+--   AllBelow p ns          every number of ns is below p
+--   Word s i n             n is the four-byte number at place i of s; 0 if it is not whole
+--   ValueOf s r            r has the kind and the numbers of s, 0 for a number that s has not
+--   WriteAsked, WriteAnswer    write_divisor: the record of r at the start of the buffer, the rest as it was
+use mathlib.Core.Path.{_≡_}
+use mathlib.Core.Bool.{Bool, true, false}
+use mathlib.Core.List.{List, [], _∷_, _++_}
+use Prim.Native.Nat.{ℕ, _+_, _*_, _<_, _≤_}
+use lib.ListN.{length, getD, drop}
+use Rattle.divisor.specs.Kind.{Kind, code, count, size}
+use Rattle.basis.specs.Divisor.{numbers}
+use Rattle.basis.specs.declared.Divisor.{Divisor}
+use Rattle.layout.specs.Layout.{number2, number4}
+use Rattle.record.specs.Cause.{Stage, must, FirstCause, Passes}
+use Rattle.record.specs.Curve.{curve-kind, curve-size}
+use Rattle.record.specs.Divisor.{of-kind}
+use Rattle.record.specs.Value.{bytes-of}
+
+pub record Answers (A : Type 0) (b : Bool) : Type 0 where
+  pub holds : b ≡ true → A
+  pub fails : b ≡ false → ¬ A
+
+pub record Checked (ss : List Stage) (n : ℕ) : Type 0 where
+  pub passes : n ≡ 0 → Passes ss
+  pub cause : ¬ (n ≡ 0) → FirstCause ss n
+
+-- a record's own length is that of the bytes given
+abbrev pub Sized : List ℕ → Type 0
+Sized s = (4 ≤ length s) × (number2 s 0 ≡ length s)
+
+abbrev pub curve-form : List ℕ → List Stage
+curve-form s = must 1 (Sized s) ∷ must 2 (number2 s 2 ≡ curve-kind) ∷ must 1 (length s ≡ curve-size) ∷ []
+
+abbrev pub divisor-form : List ℕ → List Stage
+divisor-form s =
+    must 6 (Sized s) ∷ must 7 ((κ : Kind) × of-kind s κ) ∷ must 6 ((κ : Kind) → of-kind s κ → length s ≡ size κ) ∷ []
+
+abbrev pub Known : ℕ → Type 0
+Known kind = (κ : Kind) × (kind ≡ code κ)
+
+pub record Counted (kind n : ℕ) : Type 0 where
+  pub is : (κ : Kind) → kind ≡ code κ → n ≡ count κ
+  pub small : n ≤ 9
+
+abbrev pub AllBelow : ℕ → List ℕ → Type 0
+AllBelow p [] = Unit
+AllBelow p (n ∷ ns) = (n < p) × AllBelow p ns
+
+pub record Word (s : List ℕ) (i n : ℕ) : Type 0 where
+  pub is : i + 4 ≤ length s → n ≡ number4 s i
+  pub past : length s < i + 4 → n ≡ 0
+
+pub record ValueOf (s : List ℕ) (r : Divisor) : Type 0 where
+  pub kind : r .kind ≡ number2 s 2
+  pub number : (i : ℕ) → i < 9 → Word s (4 + 4 * i) (getD (numbers r) i 0)
+
+pub record WriteAsked (r : Divisor) (out : List ℕ) : Type 0 where
+  pub kind : Kind
+  pub is : r .kind ≡ code kind
+  pub room : size kind ≤ length out
+
+pub record Written (r : Divisor) (out out′ : List ℕ) (n : ℕ) (κ : Kind) : Type 0 where
+  pub long : n ≡ size κ
+  pub bytes : out′ ≡ bytes-of κ r ++ drop (size κ) out
+
+abbrev pub WriteAnswer : Divisor → (out out′ : List ℕ) → ℕ → Type 0
+WriteAnswer r out out′ n = (κ : Kind) → r .kind ≡ code κ → Written r out out′ n κ

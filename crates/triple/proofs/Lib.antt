@@ -1,0 +1,11 @@
+-- Laws of triples of vectors over k[x].
+pub mod Element
+pub mod Members
+pub mod Leads
+pub mod Turns
+pub mod Insertion
+pub mod Reduction
+pub mod Products
+pub mod Filling
+pub mod Vectors
+pub mod Singular
