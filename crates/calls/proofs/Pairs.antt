@@ -22,10 +22,8 @@ use Rattle.ideal.proofs.Class.{equivalent-refl, equivalent-same, equivalent-sym
 use Rattle.ideal.proofs.Product.{productof-one}
 use Rattle.layout.specs.Layout.{Bytes}
 use Rattle.layout.proofs.Bytes.{bytes-take, bytes-drop}
-use Rattle.record.specs.Cause.{Passes}
 use Rattle.record.specs.Curve.{modulus, equation, curve-stages, AcceptedCurve}
 use Rattle.record.specs.Listed.{joined, AllAccepted, Listed, list-limit}
-use Rattle.record.proofs.Cause.{passes-append}
 use Rattle.record.proofs.Lists.{listed-once}
 use Rattle.calls.specs.Class.{Ring, Record, Ideal, poles-on, zero-record, IsListSum}
 use Rattle.calls.specs.Call.{ListSum, list-of, room}
@@ -34,6 +32,7 @@ use Rattle.calls.proofs.Together.{Together, together-length, together-e
 use Rattle.calls.proofs.Class.{accepted-ideal, class-reduced}
 use Rattle.calls.proofs.Multiples.{Stands, stands-one, list-class}
 use Rattle.calls.proofs.Answers.{Answered, short, enough, answer, list-of-sound}
+use Rattle.calls.proofs.Exists.{list-passes}
 use Rattle.calls.proofs.Step.{Good, Kept, Stepped, step}
 
 pub parts-bytes : (rs : List (List ℕ)) → Bytes (joined rs) → Every Bytes rs
@@ -91,9 +90,6 @@ module _ (c : List ℕ) (A : AcceptedCurve c) (rs : List (List ℕ)) where
       more k ks gs p (step c A rs gs p kept k call) (run ks (groups-after k gs) (pool-after k p) (step c A rs gs p kept k call .kept) m)
 
   module _ (listed : Listed (modulus c) (equation c) (joined rs) rs) (few : length (joined rs) ≤ list-limit) where
-    passed : Passes (curve-stages c ++ list-of c (joined rs))
-    passed = passes-append (curve-stages c) (list-of c (joined rs)) .1 (A, (few, ((rs, listed), tt)))
-
     -- the record that is alone in the pool stands for all given records
     last-stands : (gs p : List (List ℕ)) (w : List ℕ) → Kept c rs gs p → p ≡ w ∷ [] → Stands c rs w
     last-stands gs p w kept e = go (subst (λ (t : List (List ℕ)). Every (Record c) t) e records) (subst (λ (t : List (List ℕ)). Equivalent (Ring c) (ProductOf (Ring c) (Ideal c) t) (ProductOf (Ring c) (Ideal c) rs)) e (kept .whole))
@@ -109,7 +105,7 @@ module _ (c : List ℕ) (A : AcceptedCurve c) (rs : List (List ℕ)) where
 
     pub list-answer : (gs p : List (List ℕ)) → Kept c rs gs p → (out : List ℕ) (r : ℤ) (out′ : List ℕ) → room ≤ length out → ListSum c (joined rs) out r out′
         → ListAnswer c rs p out r out′
-    list-answer gs p kept out r out′ l h = go (answer (curve-stages c ++ list-of c (joined rs)) (list-of-sound c (joined rs)) passed h)
+    list-answer gs p kept out r out′ l h = go (answer (curve-stages c ++ list-of c (joined rs)) (list-of-sound c (joined rs)) (list-passes c A (joined rs) rs few listed) h)
       where
         at : (w : List ℕ) → r ≡ pos (length w) → out′ ≡ w ++ drop (length w) out → IsListSum c rs w → ListAnswer c rs p out r out′
         at w e q s = record {

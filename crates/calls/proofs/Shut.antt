@@ -16,7 +16,7 @@ use Rattle.record.specs.Cause.{Stage, Passes}
 use Rattle.record.specs.Curve.{modulus, equation, curve-stages, AcceptedCurve}
 use Rattle.record.specs.Divisor.{AcceptedDivisor}
 use Rattle.record.specs.Listed.{joined, Listed, list-limit}
-use Rattle.record.proofs.Cause.{AllSound, passes-refuses, passes-append}
+use Rattle.record.proofs.Cause.{AllSound, passes-refuses}
 use Rattle.record.proofs.Lists.{curve-sound, listed-once}
 use Rattle.calls.specs.Answer.{Returns, refused, answered}
 use Rattle.calls.specs.Class.{Record, zero-record, IsSum, IsListSum}
@@ -24,6 +24,7 @@ use Rattle.calls.specs.Call.{CheckCurve, CheckDivisor, Sum, ListSum, Com
 use Rattle.calls.specs.Pool.{PoolCall, IsCall}
 use Rattle.calls.proofs.Class.{zero-accepted, sum-one, sum-comm, zero-neutral}
 use Rattle.calls.proofs.Multiples.{list-one, list-append, list-single}
+use Rattle.calls.proofs.Exists.{one-passes, two-passes, list-passes}
 use Rattle.calls.proofs.Answers.{Answered, short, enough, answer, one-sound, two-sound, list-of-sound, record-fits}
 
 -- what a call without a cause of refusal returns
@@ -32,26 +33,16 @@ returned ss sound p (refused n f e) = absurd (passes-refuses ss sound p n f)
 returned ss sound p (answered q g) = g
 
 module _ (c : List ℕ) (A : AcceptedCurve c) where
-  one-passes : (a : List ℕ) → AcceptedDivisor (modulus c) (equation c) a → Passes (curve-stages c ++ divisor-of c a)
-  one-passes a h = passes-append (curve-stages c) (divisor-of c a) .1 (A, h)
-
-  two-passes : (a b : List ℕ) → AcceptedDivisor (modulus c) (equation c) a → AcceptedDivisor (modulus c) (equation c) b
-      → Passes (curve-stages c ++ divisor-of c a ++ divisor-of c b)
-  two-passes a b h k = passes-append (curve-stages c) (divisor-of c a ++ divisor-of c b) .1 (A, passes-append (divisor-of c a) (divisor-of c b) .1 (h, k))
-
-  list-passes : (s : List ℕ) (rs : List (List ℕ)) → length s ≤ list-limit → Listed (modulus c) (equation c) s rs → Passes (curve-stages c ++ list-of c s)
-  list-passes s rs few l = passes-append (curve-stages c) (list-of c s) .1 (A, (few, ((rs, l), tt)))
-
   pub curve-accepted : (r : ℤ) → CheckCurve c r → r ≡ pos 1
   curve-accepted r h = returned (curve-stages c) (curve-sound c) A h
 
   pub divisor-accepted : (a : List ℕ) (r : ℤ) → AcceptedDivisor (modulus c) (equation c) a → CheckDivisor c a r → r ≡ pos 1
-  divisor-accepted a r p h = returned (curve-stages c ++ divisor-of c a) (one-sound c a) (one-passes a p) h
+  divisor-accepted a r p h = returned (curve-stages c ++ divisor-of c a) (one-sound c a) (one-passes c A a p) h
 
   pub plus-zero : (a out : List ℕ) (r : ℤ) (out′ : List ℕ) → Record c a → room ≤ length out → Sum c a zero-record out r out′
       → (r ≡ pos (length a)) × (out′ ≡ a ++ drop (length a) out)
   plus-zero a out r out′ ra l h =
-      go (answer (curve-stages c ++ divisor-of c a ++ divisor-of c zero-record) (two-sound c a zero-record) (two-passes a zero-record (ra .1) (zero-accepted c .1)) h)
+      go (answer (curve-stages c ++ divisor-of c a ++ divisor-of c zero-record) (two-sound c a zero-record) (two-passes c A a zero-record (ra .1) (zero-accepted c .1)) h)
     where
       go : Answered (IsSum c a zero-record) out r out′ → (r ≡ pos (length a)) × (out′ ≡ a ++ drop (length a) out)
       go (short m e q) = absurd (omega arith)
@@ -61,7 +52,7 @@ module _ (c : List ℕ) (A : AcceptedCurve c) where
           same = sum-one c A a zero-record w (ra .1) (zero-accepted c .1) a s (sum-comm c A zero-record a a (zero-accepted c .1) (ra .1) (zero-neutral c A a ra))
 
   pub compare-self : (a : List ℕ) (r : ℤ) → AcceptedDivisor (modulus c) (equation c) a → Compare c a a r → r ≡ pos 1
-  compare-self a r p h = go (returned (curve-stages c ++ divisor-of c a ++ divisor-of c a) (two-sound c a a) (two-passes a a p p) h)
+  compare-self a r p h = go (returned (curve-stages c ++ divisor-of c a ++ divisor-of c a) (two-sound c a a) (two-passes c A a a p p) h)
     where
       go : ((a ≡ a) × (r ≡ pos 1)) ⊎ ((¬ (a ≡ a)) × (r ≡ pos 0)) → r ≡ pos 1
       go (inl (e, q)) = q
@@ -69,7 +60,7 @@ module _ (c : List ℕ) (A : AcceptedCurve c) where
 
   pub count-all : (s : List ℕ) (rs : List (List ℕ)) (kind : ℕ) (r : ℤ) → length s ≤ list-limit → Listed (modulus c) (equation c) s rs → Count c s kind r
       → r ≡ pos (tally kind rs)
-  count-all s rs kind r few l h = go (returned (curve-stages c ++ list-of c s) (list-of-sound c s) (list-passes s rs few l) h)
+  count-all s rs kind r few l h = go (returned (curve-stages c ++ list-of c s) (list-of-sound c s) (list-passes c A s rs few l) h)
     where
       go : (ts : List (List ℕ)) × Listed (modulus c) (equation c) s ts × (r ≡ pos (tally kind ts)) → r ≡ pos (tally kind rs)
       go (ts, lt, e) = e ∙ ap (λ (us : List (List ℕ)). pos (tally kind us)) (listed-once (modulus c) (equation c) s ts rs lt l)
@@ -83,8 +74,8 @@ module _ (c : List ℕ) (A : AcceptedCurve c) where
 
     pub list-pair : (out : List ℕ) (r s : ℤ) (out′ out″ : List ℕ) → ListSum c (joined (a ∷ b ∷ [])) out r out′ → Sum c a b out s out″ → (r ≡ s) × (out′ ≡ out″)
     list-pair out r s out′ out″ h k =
-        go (answer (curve-stages c ++ list-of c (joined (a ∷ b ∷ []))) (list-of-sound c (joined (a ∷ b ∷ []))) (list-passes (joined (a ∷ b ∷ [])) (a ∷ b ∷ []) few pair) h)
-        (answer (curve-stages c ++ divisor-of c a ++ divisor-of c b) (two-sound c a b) (two-passes a b (ra .1) (rb .1)) k)
+        go (answer (curve-stages c ++ list-of c (joined (a ∷ b ∷ []))) (list-of-sound c (joined (a ∷ b ∷ []))) (list-passes c A (joined (a ∷ b ∷ [])) (a ∷ b ∷ []) few pair) h)
+        (answer (curve-stages c ++ divisor-of c a ++ divisor-of c b) (two-sound c a b) (two-passes c A a b (ra .1) (rb .1)) k)
       where
         go : Answered (λ w. (ts : List (List ℕ)) × Listed (modulus c) (equation c) (joined (a ∷ b ∷ [])) ts × IsListSum c ts w) out r out′
             → Answered (IsSum c a b) out s out″ → (r ≡ s) × (out′ ≡ out″)

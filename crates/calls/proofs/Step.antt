@@ -19,9 +19,8 @@ use Rattle.ideal.specs.Poles.{Poles}
 use Rattle.ideal.proofs.Every.{Every, every-append}
 use Rattle.ideal.proofs.Class.{equivalent-sym, equivalent-trans}
 use Rattle.ideal.proofs.Product.{productof-join}
-use Rattle.record.specs.Curve.{curve-stages, AcceptedCurve}
-use Rattle.record.specs.Cause.{Passes}
-use Rattle.record.proofs.Cause.{passes-append}
+use Rattle.record.specs.Curve.{modulus, equation, curve-stages, AcceptedCurve}
+use Rattle.record.specs.Divisor.{AcceptedDivisor}
 use Rattle.calls.specs.Answer.{minus}
 use Rattle.calls.specs.Class.{Ring, Record, Ideal, poles-on, IsSum}
 use Rattle.calls.specs.Call.{divisor-of, one-if, room}
@@ -29,6 +28,7 @@ use Rattle.calls.specs.Pool.{PoolCall, entry, without, amount, written-b
 use Rattle.calls.proofs.Places.{long-enough, too-short, tally-yes, tally-no, without-both, perm-length}
 use Rattle.calls.proofs.Together.{Together, together-entry, together-every, together-without, together-more, productof-merge}
 use Rattle.calls.proofs.Class.{accepted-ideal, sum-class}
+use Rattle.calls.proofs.Exists.{two-passes}
 use Rattle.calls.proofs.Answers.{Answered, short, enough, answer, two-sound}
 
 pub record Good (c : List ℕ) (rs : List (List ℕ)) (g w : List ℕ) : Type 0 where
@@ -110,7 +110,7 @@ module _ (c : List ℕ) (A : AcceptedCurve c) (rs : List (List ℕ)) where
         }
 
     pub step : IsCall c p k → Stepped c rs gs p k
-    step call = go (answer (curve-stages c ++ divisor-of c a ++ divisor-of c b) (two-sound c a b) passed (call .sum))
+    step call = go (answer (curve-stages c ++ divisor-of c a ++ divisor-of c b) (two-sound c a b) (two-passes c A a b first second) (call .sum))
       where
         a : List ℕ
         a = entry p (k .i)
@@ -118,10 +118,11 @@ module _ (c : List ℕ) (A : AcceptedCurve c) (rs : List (List ℕ)) where
         b : List ℕ
         b = entry p (k .j)
 
-        passed : Passes (curve-stages c ++ divisor-of c a ++ divisor-of c b)
-        passed =
-            passes-append (curve-stages c) (divisor-of c a ++ divisor-of c b) .1
-            (A, passes-append (divisor-of c a) (divisor-of c b) .1 (together-entry (Good c rs) gs p (kept .together) (k .i) (call .i-below) .accepted .1, together-entry (Good c rs) gs p (kept .together) (k .j) (call .j-below) .accepted .1))
+        first : AcceptedDivisor (modulus c) (equation c) a
+        first = together-entry (Good c rs) gs p (kept .together) (k .i) (call .i-below) .accepted .1
+
+        second : AcceptedDivisor (modulus c) (equation c) b
+        second = together-entry (Good c rs) gs p (kept .together) (k .j) (call .j-below) .accepted .1
 
         go : Answered (IsSum c a b) (k .before) (k .returned) (k .after) → Stepped c rs gs p k
         go (short l e q) = short-step l e q

@@ -1,0 +1,106 @@
+-- Every class has a record, so every call on accepted records has an answer.
+--   reduced-record         the reduced ideal of a based ideal with a nonzero element has a record
+--   sum-record, negative-record, list-record, multiple-record  the results of the calls
+--   writes-some            a call whose stages are all passed but for the buffer's length has an answer, if there is a result
+--   one-passes, two-passes, list-passes    what a call checks before the buffer is passed on an accepted curve with accepted divisors
+--   sum-answered, double-answered, negative-answered, multiple-answered, list-answered   each call has an answer
+use mathlib.Core.Path.{_≡_, refl}
+use mathlib.Core.Logic.{_⊎_, inl, inr}
+use mathlib.Core.List.{List, [], _∷_, _++_}
+use Prim.Native.Nat.{ℕ, suc, _≤_}
+use native.Mathlib.Decide.{decLe}
+use lib.ListN.{length, drop, replicate}
+use lib.IntN.{ℤ, pos, negsuc}
+use Rattle.ideal.specs.Ideal.{Colon}
+use Rattle.ideal.specs.Poles.{Poles}
+use Rattle.ideal.specs.Reduced.{IsStar}
+use Rattle.ideal.proofs.Same.{same-sym, same-trans}
+use Rattle.ideal.proofs.Star.{star-exists, star-small}
+use Rattle.ideal.proofs.Finite.{BasedIdeal, product-based, productof-based}
+use Rattle.record.specs.Cause.{Stage, Passes}
+use Rattle.record.specs.Curve.{modulus, equation, curve-stages, AcceptedCurve, setting-of}
+use Rattle.record.specs.Divisor.{AcceptedDivisor}
+use Rattle.record.specs.Listed.{AllAccepted, Listed, list-limit}
+use Rattle.record.proofs.Cause.{passes-append, first-append}
+use Rattle.record.proofs.Suffices.{OneRecord, RecordWith, ReducedRecord, record-with, record-reduced}
+use Rattle.calls.specs.Answer.{minus, Writes, refused, written}
+use Rattle.calls.specs.Class.{Ring, Ideal, poles-on, zero-record, ReducedOf, IsSum, IsNegative, IsListSum, IsMultiple}
+use Rattle.calls.specs.Call.{Sum, Double, Negative, Multiple, ListSum, divisor-of, list-of, room, buffer}
+use Rattle.calls.proofs.Class.{accepted-based, all-based, any-reduced, any-star}
+use Rattle.calls.proofs.Multiples.{list-class, copies-accepted}
+
+module _ (c : List ℕ) (A : AcceptedCurve c) where
+  abbrev P : Poles (Ring c)
+  P = poles-on c A
+
+  pub reduced-record : {J : Ring c .Car → Type 0} → BasedIdeal P J → (w : List ℕ) × ReducedOf c J w
+  reduced-record {J} b = go (record-reduced (setting-of c A) (A .1 .1 .1 .0 .1) b)
+    where
+      go : OneRecord (ReducedRecord (setting-of c A) J) → (w : List ℕ) × ReducedOf c J w
+      go o = (o .bytes, any-reduced c A (o .bytes) (o .has .bytes, o .has .accepted) (o .has .reduced))
+
+  pub sum-record : (a b : List ℕ) → AcceptedDivisor (modulus c) (equation c) a → AcceptedDivisor (modulus c) (equation c) b → (w : List ℕ) × IsSum c a b w
+  sum-record a b h k = reduced-record (product-based P (accepted-based c A a h) (accepted-based c A b k))
+
+  pub negative-record : (a : List ℕ) → AcceptedDivisor (modulus c) (equation c) a → (w : List ℕ) × IsNegative c a w
+  negative-record a h = go (star-exists P (accepted-based c A a h))
+    where
+      go : (f : Ring c .Car) × IsStar P (Ideal c a) (Colon (Ring c) f (Ideal c a)) → (w : List ℕ) × IsNegative c a w
+      go (f, s) = at (record-with (setting-of c A) (A .1 .1 .1 .0 .1) (star-small P (accepted-based c A a h) s))
+        where
+          at : OneRecord (RecordWith (setting-of c A) (Colon (Ring c) f (Ideal c a))) → (w : List ℕ) × IsNegative c a w
+          at o = (o .bytes, any-star c A a (o .bytes) (o .has .bytes, o .has .accepted) (record { f = s .f; least = s .least; same = same-trans (Ring c) (same-sym (Ring c) (o .has .same)) (s .same) }))
+
+  pub list-record : (rs : List (List ℕ)) → AllAccepted (modulus c) (equation c) rs → (w : List ℕ) × IsListSum c rs w
+  list-record [] a = (zero-record, refl)
+  list-record (r ∷ rs) a = reduced-record (productof-based P (Ideal c) (r ∷ rs) (all-based c A (r ∷ rs) a))
+
+  pub multiple-record : (a : List ℕ) → AcceptedDivisor (modulus c) (equation c) a → (n : ℤ) → (w : List ℕ) × IsMultiple c a n w
+  multiple-record a h (pos n) = list-record (replicate n a) (copies-accepted c n a h)
+  multiple-record a h (negsuc n) = go (list-record (replicate (suc n) a) (copies-accepted c (suc n) a h))
+    where
+      go : (m : List ℕ) × IsListSum c (replicate (suc n) a) m → (w : List ℕ) × IsMultiple c a (negsuc n) w
+      go (m, s) = at (negative-record m (list-class c A (replicate (suc n) a) m (copies-accepted c (suc n) a h) s .accepted .1))
+        where
+          at : (w : List ℕ) × IsNegative c m w → (w : List ℕ) × IsMultiple c a (negsuc n) w
+          at (w, t) = (w, (m, s, t))
+
+pub writes-some : (ss : List Stage) → Passes ss → {Good : List ℕ → Type 0} → (w : List ℕ) × Good w → (out : List ℕ)
+    → (r : ℤ) × (out′ : List ℕ) × Writes (ss ++ buffer out) Good out r out′
+writes-some ss p {Good} (w, g) out = go (decLe room (length out))
+  where
+    go : Dec (room ≤ length out) → (r : ℤ) × (out′ : List ℕ) × Writes (ss ++ buffer out) Good out r out′
+    go (yes l) = (pos (length w), w ++ drop (length w) out, written w (passes-append ss (buffer out) .1 (p, (l, tt))) g refl refl)
+    go (no l) = (minus 10, out, refused 10 (first-append ss (buffer out) 10 .1 (inr (p, inl (l, refl)))) refl refl)
+
+module _ (c : List ℕ) (A : AcceptedCurve c) where
+  pub one-passes : (a : List ℕ) → AcceptedDivisor (modulus c) (equation c) a → Passes (curve-stages c ++ divisor-of c a)
+  one-passes a h = passes-append (curve-stages c) (divisor-of c a) .1 (A, h)
+
+  pub two-passes : (a b : List ℕ) → AcceptedDivisor (modulus c) (equation c) a → AcceptedDivisor (modulus c) (equation c) b
+      → Passes (curve-stages c ++ divisor-of c a ++ divisor-of c b)
+  two-passes a b h k = passes-append (curve-stages c) (divisor-of c a ++ divisor-of c b) .1 (A, passes-append (divisor-of c a) (divisor-of c b) .1 (h, k))
+
+  pub list-passes : (s : List ℕ) (rs : List (List ℕ)) → length s ≤ list-limit → Listed (modulus c) (equation c) s rs → Passes (curve-stages c ++ list-of c s)
+  list-passes s rs few l = passes-append (curve-stages c) (list-of c s) .1 (A, (few, ((rs, l), tt)))
+
+  pub sum-answered : (a b : List ℕ) → AcceptedDivisor (modulus c) (equation c) a → AcceptedDivisor (modulus c) (equation c) b → (out : List ℕ)
+      → (r : ℤ) × (out′ : List ℕ) × Sum c a b out r out′
+  sum-answered a b h k out = writes-some (curve-stages c ++ divisor-of c a ++ divisor-of c b) (two-passes a b h k) (sum-record c A a b h k) out
+
+  module _ (a : List ℕ) (h : AcceptedDivisor (modulus c) (equation c) a) (out : List ℕ) where
+    pub double-answered : (r : ℤ) × (out′ : List ℕ) × Double c a out r out′
+    double-answered = writes-some (curve-stages c ++ divisor-of c a) (one-passes a h) (sum-record c A a a h h) out
+
+    pub negative-answered : (r : ℤ) × (out′ : List ℕ) × Negative c a out r out′
+    negative-answered = writes-some (curve-stages c ++ divisor-of c a) (one-passes a h) (negative-record c A a h) out
+
+    pub multiple-answered : (n : ℤ) → (r : ℤ) × (out′ : List ℕ) × Multiple c a n out r out′
+    multiple-answered n = writes-some (curve-stages c ++ divisor-of c a) (one-passes a h) (multiple-record c A a h n) out
+
+  pub list-answered : (s : List ℕ) (rs : List (List ℕ)) → length s ≤ list-limit → Listed (modulus c) (equation c) s rs → (out : List ℕ)
+      → (r : ℤ) × (out′ : List ℕ) × ListSum c s out r out′
+  list-answered s rs few l out = writes-some (curve-stages c ++ list-of c s) (list-passes s rs few l) (go (list-record c A rs (l .accepted))) out
+    where
+      go : (w : List ℕ) × IsListSum c rs w → (w : List ℕ) × ((ts : List (List ℕ)) × Listed (modulus c) (equation c) s ts × IsListSum c ts w)
+      go (w, t) = (w, (rs, l, t))
