@@ -42,7 +42,8 @@ module _ (ss : List Stage) (sound : AllSound ss) where
         q ∙ ap (λ (v : List ℕ). v ++ drop (length v) out) same ∙ sym q′,
       )
 
-  pub returns-one : {Good : ℤ → Type 0} → ((r s : ℤ) → Passes ss → Good r → Good s → r ≡ s) → {r s : ℤ} → Returns ss Good r → Returns ss Good s → r ≡ s
+  pub returns-one : {Good : ℤ → Type 0} → ((r s : ℤ) → Passes ss → Good r → Good s → r ≡ s) → {r s : ℤ} → Returns ss Good r → Returns ss Good s
+      → r ≡ s
   returns-one one (refused n f e) (refused m g e′) = e ∙ ap minus (one-cause ss sound n m f g) ∙ sym e′
   returns-one one (refused n f e) (answered p g) = absurd (passes-refuses ss sound p n f)
   returns-one one (answered p g) (refused n f e) = absurd (passes-refuses ss sound p n f)
@@ -77,7 +78,9 @@ module _ (c a : List ℕ) where
   list-of-sound = sound-append (curve-stages c) (list-of c a) (curve-sound c) (sound-must _ _, (list-sound (modulus c) (equation c) a, tt))
 
 pub two-sound : (c a b : List ℕ) → AllSound (curve-stages c ++ divisor-of c a ++ divisor-of c b)
-two-sound c a b = sound-append (curve-stages c) (divisor-of c a ++ divisor-of c b) (curve-sound c) (sound-append (divisor-of c a) (divisor-of c b) (divisor-stages-sound c a) (divisor-stages-sound c b))
+two-sound c a b =
+    sound-append (curve-stages c) (divisor-of c a ++ divisor-of c b) (curve-sound c)
+    (sound-append (divisor-of c a) (divisor-of c b) (divisor-stages-sound c a) (divisor-stages-sound c b))
 
 -- The demand: a record takes 4 to 40 bytes, so that it fits in a buffer that is not refused.
 pub record-fits : (c w : List ℕ) → Record c w → (4 ≤ length w) × (length w ≤ room)

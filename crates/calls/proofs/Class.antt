@@ -1,4 +1,5 @@
 -- Classes of records on an accepted curve. "w is the record of the reduced ideal of J" says that w is a record and its ideal equivalent to J.
+--   Accepted c w, AcceptedRow c rs     w is an accepted divisor on the curve c; each of rs is
 --   accepted-footprint     the ideal of an accepted divisor has a small footprint
 --   accepted-based, accepted-ideal     … so it is a based ideal with a nonzero element
 --   all-based, all-ideals  … and so for the records of a list
@@ -27,7 +28,7 @@ use Rattle.field.specs.Field.{F}
 use Rattle.ideal.specs.Ideal.{IsIdeal, Product, SameIdeal, Equivalent}
 use Rattle.ideal.specs.Poles.{Poles}
 use Rattle.ideal.specs.Reduced.{IsStar, IsReduced}
-use Rattle.ideal.proofs.Same.{same-refl, same-sym}
+use Rattle.ideal.proofs.Same.{same-refl, same-sym, same-trans}
 use Rattle.ideal.proofs.Every.{Every}
 use Rattle.ideal.proofs.Class.{equivalent-same, equivalent-trans}
 use Rattle.ideal.proofs.Product.{product-comm, product-unit, product-same, product-ideal, product-equivalent}
@@ -46,25 +47,33 @@ use Rattle.record.proofs.Written.{written-reads, written-ideal}
 use Rattle.record.proofs.Unique.{accepted-unique}
 use Rattle.calls.specs.Class.{Ring, Record, Ideal, poles-on, zero-record, ReducedOf, IsSum, IsNegative}
 
+-- the divisor w is accepted on the curve c; the divisors rs are
+abbrev pub Accepted : (c w : List ℕ) → Type 0
+Accepted c w = AcceptedDivisor (modulus c) (equation c) w
+
+abbrev pub AcceptedRow : List ℕ → List (List ℕ) → Type 0
+AcceptedRow c rs = AllAccepted (modulus c) (equation c) rs
+
 module _ (c : List ℕ) (A : AcceptedCurve c) where
-  pub accepted-footprint : (w : List ℕ) → AcceptedDivisor (modulus c) (equation c) w → SmallFootprint (poles-on c A) (Ideal c w)
+  pub accepted-footprint : (w : List ℕ) → Accepted c w → SmallFootprint (poles-on c A) (Ideal c w)
   accepted-footprint w a = go (accepted-reads (modulus c) (equation c) w a)
     where
       go : (κ : Kind) × Reads (modulus c) (equation c) κ w → SmallFootprint (poles-on c A) (Ideal c w)
       go (κ, r) =
-          footprint-same (poles-on c A) (same-sym (Ring c) (ideal-reads (modulus c) (equation c) κ w (r .kind))) (basis-footprint (F (modulus c) (setting-of c A .prime)) (equation c) (setting-of c A .nonzero) κ (number-at (modulus c) w) (r .basis))
+          footprint-same (poles-on c A) (same-sym (Ring c) (ideal-reads (modulus c) (equation c) κ w (r .kind)))
+          (basis-footprint (F (modulus c) (setting-of c A .prime)) (equation c) (setting-of c A .nonzero) κ (number-at (modulus c) w) (r .basis))
 
-  pub accepted-based : (w : List ℕ) → AcceptedDivisor (modulus c) (equation c) w → BasedIdeal (poles-on c A) (Ideal c w)
+  pub accepted-based : (w : List ℕ) → Accepted c w → BasedIdeal (poles-on c A) (Ideal c w)
   accepted-based w a = footprint-based (poles-on c A) (accepted-footprint w a)
 
-  pub accepted-ideal : (w : List ℕ) → AcceptedDivisor (modulus c) (equation c) w → IsIdeal (Ring c) (Ideal c w)
+  pub accepted-ideal : (w : List ℕ) → Accepted c w → IsIdeal (Ring c) (Ideal c w)
   accepted-ideal w a = accepted-footprint w a .ideal
 
-  pub all-based : (rs : List (List ℕ)) → AllAccepted (modulus c) (equation c) rs → Every (λ r. BasedIdeal (poles-on c A) (Ideal c r)) rs
+  pub all-based : (rs : List (List ℕ)) → AcceptedRow c rs → Every (λ r. BasedIdeal (poles-on c A) (Ideal c r)) rs
   all-based [] a = tt
   all-based (r ∷ rs) a = (accepted-based r (a .0), all-based rs (a .1))
 
-  pub all-ideals : (rs : List (List ℕ)) → AllAccepted (modulus c) (equation c) rs → Every (λ r. IsIdeal (Ring c) (Ideal c r)) rs
+  pub all-ideals : (rs : List (List ℕ)) → AcceptedRow c rs → Every (λ r. IsIdeal (Ring c) (Ideal c r)) rs
   all-ideals [] a = tt
   all-ideals (r ∷ rs) a = (accepted-ideal r (a .0), all-ideals rs (a .1))
 
@@ -73,7 +82,8 @@ class-reduced c w r e = (r, λ A. equivalent-reduced (poles-on c A) (accepted-fo
 
 pub poles-same : (c : List ℕ) (A A′ : AcceptedCurve c) → poles-on c A ≡ poles-on c A′
 poles-same c A A′ =
-    ap (λ (q : Prime (modulus c)). poles (F (modulus c) q) (equation c) (F (modulus c) q .nontrivial)) (prime-prop (modulus c) (A .1 .1 .1 .0 .0) (A′ .1 .1 .1 .0 .0))
+    ap (λ (q : Prime (modulus c)). poles (F (modulus c) q) (equation c) (F (modulus c) q .nontrivial))
+    (prime-prop (modulus c) (A .1 .1 .1 .0 .0) (A′ .1 .1 .1 .0 .0))
 
 module _ (c : List ℕ) (A : AcceptedCurve c) where
   pub any-reduced : {J : Ring c .Car → Type 0} (w : List ℕ) → Record c w → IsReduced (poles-on c A) J (Ideal c w) → ReducedOf c J w
@@ -91,7 +101,10 @@ module _ (c : List ℕ) where
   zero-accepted = (bytes-record 0 [], reads-accepted (modulus c) (equation c) k0 zero-record zero-reads)
 
   pub zero-ideal : SameIdeal (Ring c) (λ _. Unit) (Ideal c zero-record)
-  zero-ideal g = (λ _. written-ideal k0 [] refl (modulus c) (equation c) (λ i. omega arith) g .1 (g, R .zero, refl, sym (R .add-zero (R .mul g (R .one)) ∙ R .mul-one g)), λ _. tt)
+  zero-ideal g = (
+    λ _. written-ideal k0 [] refl (modulus c) (equation c) (λ i. omega arith) g .1 (g, R .zero, refl, sym (R .add-zero (R .mul g (R .one)) ∙ R .mul-one g)),
+    λ _. tt,
+  )
     where
       R : CommRing
       R = Ring c
@@ -119,7 +132,7 @@ module _ (c : List ℕ) (A : AcceptedCurve c) where
   zero-reduced = class-reduced c zero-record (zero-accepted c) (equivalent-same P (zero-ideal c))
 
   -- the sum of a and b
-  module _ (a b w : List ℕ) (ra : AcceptedDivisor (modulus c) (equation c) a) (rb : AcceptedDivisor (modulus c) (equation c) b) where
+  module _ (a b w : List ℕ) (ra : Accepted c a) (rb : Accepted c b) where
     pub sum-class : IsSum c a b w → Equivalent (Ring c) (Product (Ring c) (Ideal c a) (Ideal c b)) (Ideal c w)
     sum-class h = reduced-class w (product-based P (accepted-based c A a ra) (accepted-based c A b rb)) h
 
@@ -135,9 +148,12 @@ module _ (c : List ℕ) (A : AcceptedCurve c) where
 
   pub zero-neutral : (a : List ℕ) → Record c a → IsSum c zero-record a a
   zero-neutral a r =
-      class-reduced c a r (equivalent-trans P (equivalent-same P (product-same (Ring c) (same-sym (Ring c) (zero-ideal c)) (same-refl (Ring c) (Ideal c a)))) (equivalent-same P (product-unit (Ring c) (accepted-ideal c A a (r .1)))))
+      class-reduced c a r (equivalent-same P (same-trans (Ring c) whole (product-unit (Ring c) (accepted-ideal c A a (r .1)))))
+    where
+      whole : SameIdeal (Ring c) (Product (Ring c) (Ideal c zero-record) (Ideal c a)) (Product (Ring c) (λ _. Unit) (Ideal c a))
+      whole = product-same (Ring c) (same-sym (Ring c) (zero-ideal c)) (same-refl (Ring c) (Ideal c a))
 
-  pub negative-one : (a w w′ : List ℕ) → AcceptedDivisor (modulus c) (equation c) a → IsNegative c a w → IsNegative c a w′ → w ≡ w′
+  pub negative-one : (a w w′ : List ℕ) → Accepted c a → IsNegative c a w → IsNegative c a w′ → w ≡ w′
   negative-one a w w′ r h h′ = record-same w w′ (h .0) (h′ .0) (star-unique P (accepted-ideal c A a r) (h .1 A) (h′ .1 A))
 
 pub negative-back : (c a w : List ℕ) → Record c a → IsNegative c a w → IsNegative c w a

@@ -8,13 +8,12 @@ use Prim.Native.Nat.{ℕ}
 use lib.IntN.{ℤ, pos}
 use Rattle.record.specs.Cause.{Passes}
 use Rattle.record.specs.Curve.{modulus, equation, curve-stages, AcceptedCurve}
-use Rattle.record.specs.Divisor.{AcceptedDivisor}
 use Rattle.record.specs.Listed.{Listed}
 use Rattle.record.proofs.Cause.{AllSound, passes-append}
 use Rattle.record.proofs.Lists.{curve-sound, listed-once}
 use Rattle.calls.specs.Class.{IsListSum}
 use Rattle.calls.specs.Call.{CheckCurve, CheckDivisor, Sum, Double, Negative, Multiple, ListSum, Compare, Count, divisor-of, list-of, buffer, tally}
-use Rattle.calls.proofs.Class.{sum-one, negative-one}
+use Rattle.calls.proofs.Class.{Accepted, sum-one, negative-one}
 use Rattle.calls.proofs.Multiples.{list-one, multiple-one}
 use Rattle.calls.proofs.Answers.{sound-append, buffer-sound, one-sound, two-sound, list-of-sound, writes-one, returns-one}
 
@@ -25,30 +24,34 @@ pub check-divisor-determined : (c a : List ℕ) (r s : ℤ) → CheckDivisor c a
 check-divisor-determined c a r s h k = returns-one (curve-stages c ++ divisor-of c a) (one-sound c a) (λ r s p e e′. e ∙ sym e′) h k
 
 -- the two answers of a comparison exclude each other
-compare-one : (a b : List ℕ) (r s : ℤ) → ((a ≡ b) × (r ≡ pos 1)) ⊎ ((¬ (a ≡ b)) × (r ≡ pos 0)) → ((a ≡ b) × (s ≡ pos 1)) ⊎ ((¬ (a ≡ b)) × (s ≡ pos 0)) → r ≡ s
+compare-one : (a b : List ℕ) (r s : ℤ) → ((a ≡ b) × (r ≡ pos 1)) ⊎ ((¬ (a ≡ b)) × (r ≡ pos 0))
+    → ((a ≡ b) × (s ≡ pos 1)) ⊎ ((¬ (a ≡ b)) × (s ≡ pos 0)) → r ≡ s
 compare-one a b r s (inl (e, q)) (inl (e′, q′)) = q ∙ sym q′
 compare-one a b r s (inl (e, q)) (inr (n, q′)) = absurd (n e)
 compare-one a b r s (inr (n, q)) (inl (e, q′)) = absurd (n e)
 compare-one a b r s (inr (n, q)) (inr (n′, q′)) = q ∙ sym q′
 
 pub compare-determined : (c a b : List ℕ) (r s : ℤ) → Compare c a b r → Compare c a b s → r ≡ s
-compare-determined c a b r s h k = returns-one (curve-stages c ++ divisor-of c a ++ divisor-of c b) (two-sound c a b) (λ r s p. compare-one a b r s) h k
+compare-determined c a b r s h k =
+    returns-one (curve-stages c ++ divisor-of c a ++ divisor-of c b) (two-sound c a b) (λ r s p. compare-one a b r s) h k
 
 pub count-determined : (c s : List ℕ) (kind : ℕ) (r t : ℤ) → Count c s kind r → Count c s kind t → r ≡ t
 count-determined c s kind r t h k = returns-one (curve-stages c ++ list-of c s) (list-of-sound c s) (λ r t p. one r t) h k
   where
-    one : (r t : ℤ) → (rs : List (List ℕ)) × Listed (modulus c) (equation c) s rs × (r ≡ pos (tally kind rs)) → (rs : List (List ℕ)) × Listed (modulus c) (equation c) s rs × (t ≡ pos (tally kind rs)) → r ≡ t
-    one r t (rs, l, e) (rs′, l′, e′) = e ∙ ap (λ (ws : List (List ℕ)). pos (tally kind ws)) (listed-once (modulus c) (equation c) s rs rs′ l l′) ∙ sym e′
+    one : (r t : ℤ) → (rs : List (List ℕ)) × Listed (modulus c) (equation c) s rs × (r ≡ pos (tally kind rs))
+        → (rs : List (List ℕ)) × Listed (modulus c) (equation c) s rs × (t ≡ pos (tally kind rs)) → r ≡ t
+    one r t (rs, l, e) (rs′, l′, e′) =
+        e ∙ ap (λ (ws : List (List ℕ)). pos (tally kind ws)) (listed-once (modulus c) (equation c) s rs rs′ l l′) ∙ sym e′
 
 module _ (c out : List ℕ) where
   -- What a call that writes has checked: the curve and one divisor, the curve and two divisors, the curve and a list.
-  one-passed : (a : List ℕ) → Passes (curve-stages c ++ divisor-of c a ++ buffer out) → AcceptedCurve c × AcceptedDivisor (modulus c) (equation c) a
+  one-passed : (a : List ℕ) → Passes (curve-stages c ++ divisor-of c a ++ buffer out) → AcceptedCurve c × Accepted c a
   one-passed a p =
       let q = passes-append (curve-stages c) (divisor-of c a ++ buffer out) .0 p in
       (q .0, passes-append (divisor-of c a) (buffer out) .0 (q .1) .0)
 
   two-passed : (a b : List ℕ) → Passes (curve-stages c ++ divisor-of c a ++ divisor-of c b ++ buffer out)
-      → AcceptedCurve c × AcceptedDivisor (modulus c) (equation c) a × AcceptedDivisor (modulus c) (equation c) b
+      → AcceptedCurve c × Accepted c a × Accepted c b
   two-passed a b p =
       let q = passes-append (curve-stages c) (divisor-of c a ++ divisor-of c b ++ buffer out) .0 p in
       let t = passes-append (divisor-of c a) (divisor-of c b ++ buffer out) .0 (q .1) in
@@ -69,21 +72,27 @@ module _ (c out : List ℕ) where
 
   pub double-determined : (a : List ℕ) (r s : ℤ) (out′ out″ : List ℕ) → Double c a out r out′ → Double c a out s out″ → (r ≡ s) × (out′ ≡ out″)
   double-determined a r s out′ out″ =
-      writes-one (curve-stages c ++ divisor-of c a ++ buffer out) (one-buffer-sound a) (λ w w′ p. let q = one-passed a p in sum-one c (q .0) a a w (q .1) (q .1) w′)
+      writes-one (curve-stages c ++ divisor-of c a ++ buffer out) (one-buffer-sound a)
+      (λ w w′ p. let q = one-passed a p in sum-one c (q .0) a a w (q .1) (q .1) w′)
 
   pub negative-determined : (a : List ℕ) (r s : ℤ) (out′ out″ : List ℕ) → Negative c a out r out′ → Negative c a out s out″ → (r ≡ s) × (out′ ≡ out″)
   negative-determined a r s out′ out″ =
-      writes-one (curve-stages c ++ divisor-of c a ++ buffer out) (one-buffer-sound a) (λ w w′ p. let q = one-passed a p in negative-one c (q .0) a w w′ (q .1))
+      writes-one (curve-stages c ++ divisor-of c a ++ buffer out) (one-buffer-sound a)
+      (λ w w′ p. let q = one-passed a p in negative-one c (q .0) a w w′ (q .1))
 
-  pub multiple-determined : (a : List ℕ) (n r s : ℤ) (out′ out″ : List ℕ) → Multiple c a n out r out′ → Multiple c a n out s out″ → (r ≡ s) × (out′ ≡ out″)
+  pub multiple-determined : (a : List ℕ) (n r s : ℤ) (out′ out″ : List ℕ) → Multiple c a n out r out′ → Multiple c a n out s out″
+      → (r ≡ s) × (out′ ≡ out″)
   multiple-determined a n r s out′ out″ =
-      writes-one (curve-stages c ++ divisor-of c a ++ buffer out) (one-buffer-sound a) (λ w w′ p. let q = one-passed a p in multiple-one c (q .0) a (q .1) n w w′)
+      writes-one (curve-stages c ++ divisor-of c a ++ buffer out) (one-buffer-sound a)
+      (λ w w′ p. let q = one-passed a p in multiple-one c (q .0) a (q .1) n w w′)
 
   pub list-determined : (s : List ℕ) (r t : ℤ) (out′ out″ : List ℕ) → ListSum c s out r out′ → ListSum c s out t out″ → (r ≡ t) × (out′ ≡ out″)
   list-determined s r t out′ out″ =
-      writes-one (curve-stages c ++ list-of c s ++ buffer out) (sound-append (curve-stages c ++ list-of c s) (buffer out) (list-of-sound c s) (buffer-sound out)) (λ w w′ p. one (list-passed s p) w w′)
+      writes-one (curve-stages c ++ list-of c s ++ buffer out)
+      (sound-append (curve-stages c ++ list-of c s) (buffer out) (list-of-sound c s) (buffer-sound out)) (λ w w′ p. one (list-passed s p) w w′)
     where
       one : AcceptedCurve c → (w w′ : List ℕ) → (rs : List (List ℕ)) × Listed (modulus c) (equation c) s rs × IsListSum c rs w
           → (rs : List (List ℕ)) × Listed (modulus c) (equation c) s rs × IsListSum c rs w′ → w ≡ w′
       one A w w′ (rs, l, h) (rs′, l′, h′) =
-          list-one c A rs w w′ (l .accepted) h (subst (λ (ws : List (List ℕ)). IsListSum c ws w′) (listed-once (modulus c) (equation c) s rs′ rs l′ l) h′)
+          list-one c A rs w w′ (l .accepted) h
+          (subst (λ (ws : List (List ℕ)). IsListSum c ws w′) (listed-once (modulus c) (equation c) s rs′ rs l′ l) h′)

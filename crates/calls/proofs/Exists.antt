@@ -19,14 +19,13 @@ use Rattle.ideal.proofs.Star.{star-exists, star-small}
 use Rattle.ideal.proofs.Finite.{BasedIdeal, product-based, productof-based}
 use Rattle.record.specs.Cause.{Stage, Passes}
 use Rattle.record.specs.Curve.{modulus, equation, curve-stages, AcceptedCurve, setting-of}
-use Rattle.record.specs.Divisor.{AcceptedDivisor}
-use Rattle.record.specs.Listed.{AllAccepted, Listed, list-limit}
+use Rattle.record.specs.Listed.{Listed, list-limit}
 use Rattle.record.proofs.Cause.{passes-append, first-append}
 use Rattle.record.proofs.Suffices.{OneRecord, RecordWith, ReducedRecord, record-with, record-reduced}
 use Rattle.calls.specs.Answer.{minus, Writes, refused, written}
 use Rattle.calls.specs.Class.{Ring, Ideal, poles-on, zero-record, ReducedOf, IsSum, IsNegative, IsListSum, IsMultiple}
 use Rattle.calls.specs.Call.{Sum, Double, Negative, Multiple, ListSum, divisor-of, list-of, room, buffer}
-use Rattle.calls.proofs.Class.{accepted-based, all-based, any-reduced, any-star}
+use Rattle.calls.proofs.Class.{Accepted, AcceptedRow, accepted-based, all-based, any-reduced, any-star}
 use Rattle.calls.proofs.Multiples.{list-class, copies-accepted}
 
 module _ (c : List ℕ) (A : AcceptedCurve c) where
@@ -39,23 +38,26 @@ module _ (c : List ℕ) (A : AcceptedCurve c) where
       go : OneRecord (ReducedRecord (setting-of c A) J) → (w : List ℕ) × ReducedOf c J w
       go o = (o .bytes, any-reduced c A (o .bytes) (o .has .bytes, o .has .accepted) (o .has .reduced))
 
-  pub sum-record : (a b : List ℕ) → AcceptedDivisor (modulus c) (equation c) a → AcceptedDivisor (modulus c) (equation c) b → (w : List ℕ) × IsSum c a b w
+  pub sum-record : (a b : List ℕ) → Accepted c a → Accepted c b → (w : List ℕ) × IsSum c a b w
   sum-record a b h k = reduced-record (product-based P (accepted-based c A a h) (accepted-based c A b k))
 
-  pub negative-record : (a : List ℕ) → AcceptedDivisor (modulus c) (equation c) a → (w : List ℕ) × IsNegative c a w
+  pub negative-record : (a : List ℕ) → Accepted c a → (w : List ℕ) × IsNegative c a w
   negative-record a h = go (star-exists P (accepted-based c A a h))
     where
       go : (f : Ring c .Car) × IsStar P (Ideal c a) (Colon (Ring c) f (Ideal c a)) → (w : List ℕ) × IsNegative c a w
       go (f, s) = at (record-with (setting-of c A) (A .1 .1 .1 .0 .1) (star-small P (accepted-based c A a h) s))
         where
           at : OneRecord (RecordWith (setting-of c A) (Colon (Ring c) f (Ideal c a))) → (w : List ℕ) × IsNegative c a w
-          at o = (o .bytes, any-star c A a (o .bytes) (o .has .bytes, o .has .accepted) (record { f = s .f; least = s .least; same = same-trans (Ring c) (same-sym (Ring c) (o .has .same)) (s .same) }))
+          at o = (o .bytes, any-star c A a (o .bytes) (o .has .bytes, o .has .accepted) star)
+            where
+              star : IsStar P (Ideal c a) (Ideal c (o .bytes))
+              star = record { f = s .f; least = s .least; same = same-trans (Ring c) (same-sym (Ring c) (o .has .same)) (s .same) }
 
-  pub list-record : (rs : List (List ℕ)) → AllAccepted (modulus c) (equation c) rs → (w : List ℕ) × IsListSum c rs w
+  pub list-record : (rs : List (List ℕ)) → AcceptedRow c rs → (w : List ℕ) × IsListSum c rs w
   list-record [] a = (zero-record, refl)
   list-record (r ∷ rs) a = reduced-record (productof-based P (Ideal c) (r ∷ rs) (all-based c A (r ∷ rs) a))
 
-  pub multiple-record : (a : List ℕ) → AcceptedDivisor (modulus c) (equation c) a → (n : ℤ) → (w : List ℕ) × IsMultiple c a n w
+  pub multiple-record : (a : List ℕ) → Accepted c a → (n : ℤ) → (w : List ℕ) × IsMultiple c a n w
   multiple-record a h (pos n) = list-record (replicate n a) (copies-accepted c n a h)
   multiple-record a h (negsuc n) = go (list-record (replicate (suc n) a) (copies-accepted c (suc n) a h))
     where
@@ -74,21 +76,23 @@ writes-some ss p {Good} (w, g) out = go (decLe room (length out))
     go (no l) = (minus 10, out, refused 10 (first-append ss (buffer out) 10 .1 (inr (p, inl (l, refl)))) refl refl)
 
 module _ (c : List ℕ) (A : AcceptedCurve c) where
-  pub one-passes : (a : List ℕ) → AcceptedDivisor (modulus c) (equation c) a → Passes (curve-stages c ++ divisor-of c a)
+  pub one-passes : (a : List ℕ) → Accepted c a → Passes (curve-stages c ++ divisor-of c a)
   one-passes a h = passes-append (curve-stages c) (divisor-of c a) .1 (A, h)
 
-  pub two-passes : (a b : List ℕ) → AcceptedDivisor (modulus c) (equation c) a → AcceptedDivisor (modulus c) (equation c) b
+  pub two-passes : (a b : List ℕ) → Accepted c a → Accepted c b
       → Passes (curve-stages c ++ divisor-of c a ++ divisor-of c b)
-  two-passes a b h k = passes-append (curve-stages c) (divisor-of c a ++ divisor-of c b) .1 (A, passes-append (divisor-of c a) (divisor-of c b) .1 (h, k))
+  two-passes a b h k =
+      passes-append (curve-stages c) (divisor-of c a ++ divisor-of c b) .1 (A, passes-append (divisor-of c a) (divisor-of c b) .1 (h, k))
 
-  pub list-passes : (s : List ℕ) (rs : List (List ℕ)) → length s ≤ list-limit → Listed (modulus c) (equation c) s rs → Passes (curve-stages c ++ list-of c s)
+  pub list-passes : (s : List ℕ) (rs : List (List ℕ)) → length s ≤ list-limit → Listed (modulus c) (equation c) s rs
+      → Passes (curve-stages c ++ list-of c s)
   list-passes s rs few l = passes-append (curve-stages c) (list-of c s) .1 (A, (few, ((rs, l), tt)))
 
-  pub sum-answered : (a b : List ℕ) → AcceptedDivisor (modulus c) (equation c) a → AcceptedDivisor (modulus c) (equation c) b → (out : List ℕ)
+  pub sum-answered : (a b : List ℕ) → Accepted c a → Accepted c b → (out : List ℕ)
       → (r : ℤ) × (out′ : List ℕ) × Sum c a b out r out′
   sum-answered a b h k out = writes-some (curve-stages c ++ divisor-of c a ++ divisor-of c b) (two-passes a b h k) (sum-record c A a b h k) out
 
-  module _ (a : List ℕ) (h : AcceptedDivisor (modulus c) (equation c) a) (out : List ℕ) where
+  module _ (a : List ℕ) (h : Accepted c a) (out : List ℕ) where
     pub double-answered : (r : ℤ) × (out′ : List ℕ) × Double c a out r out′
     double-answered = writes-some (curve-stages c ++ divisor-of c a) (one-passes a h) (sum-record c A a a h h) out
 

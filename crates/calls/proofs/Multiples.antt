@@ -21,16 +21,14 @@ use Rattle.ideal.proofs.Class.{equivalent-same, equivalent-sym, equivalent-tran
 use Rattle.ideal.proofs.Product.{productof-append, productof-one}
 use Rattle.ideal.proofs.Finite.{productof-based}
 use Rattle.record.specs.Curve.{modulus, equation, AcceptedCurve}
-use Rattle.record.specs.Divisor.{AcceptedDivisor}
-use Rattle.record.specs.Listed.{AllAccepted}
 use Rattle.calls.specs.Class.{Ring, Record, Ideal, poles-on, zero-record, IsSum, IsNegative, IsListSum, IsMultiple}
-use Rattle.calls.proofs.Class.{accepted-ideal, all-based, all-ideals, class-reduced, reduced-class, class-same, zero-accepted, zero-ideal, sum-law, negative-one}
+use Rattle.calls.proofs.Class.{Accepted, AcceptedRow, accepted-ideal, all-based, all-ideals, class-reduced, reduced-class, class-same, zero-accepted, zero-ideal, sum-law, negative-one}
 
 pub record Stands (c : List ℕ) (rs : List (List ℕ)) (w : List ℕ) : Type 0 where
   pub accepted : Record c w
   pub class : Equivalent (Ring c) (ProductOf (Ring c) (Ideal c) rs) (Ideal c w)
 
-pub copies-accepted : (c : List ℕ) (n : ℕ) (a : List ℕ) → AcceptedDivisor (modulus c) (equation c) a → AllAccepted (modulus c) (equation c) (replicate n a)
+pub copies-accepted : (c : List ℕ) (n : ℕ) (a : List ℕ) → Accepted c a → AcceptedRow c (replicate n a)
 copies-accepted c zero a h = tt
 copies-accepted c (suc n) a h = (h, copies-accepted c n a h)
 
@@ -38,26 +36,31 @@ module _ (c : List ℕ) (A : AcceptedCurve c) where
   abbrev P : Poles (Ring c)
   P = poles-on c A
 
-  pub list-class : (rs : List (List ℕ)) (w : List ℕ) → AllAccepted (modulus c) (equation c) rs → IsListSum c rs w → Stands c rs w
+  pub list-class : (rs : List (List ℕ)) (w : List ℕ) → AcceptedRow c rs → IsListSum c rs w → Stands c rs w
   list-class [] w a e = subst (Stands c []) (sym e) (record { accepted = zero-accepted c; class = equivalent-same P (zero-ideal c) })
-  list-class (r ∷ rs) w a h = record { accepted = h .0; class = reduced-class c A w (productof-based P (Ideal c) (r ∷ rs) (all-based c A (r ∷ rs) a)) h }
+  list-class (r ∷ rs) w a h =
+      record { accepted = h .0; class = reduced-class c A w (productof-based P (Ideal c) (r ∷ rs) (all-based c A (r ∷ rs) a)) h }
 
   pub class-list : (rs : List (List ℕ)) (w : List ℕ) → Stands c rs w → IsListSum c rs w
-  class-list [] w s = class-same c A w zero-record (s .accepted) (zero-accepted c) (equivalent-trans P (equivalent-sym P (s .class)) (equivalent-same P (zero-ideal c)))
+  class-list [] w s =
+      class-same c A w zero-record (s .accepted) (zero-accepted c)
+      (equivalent-trans P (equivalent-sym P (s .class)) (equivalent-same P (zero-ideal c)))
   class-list (r ∷ rs) w s = class-reduced c w (s .accepted) (s .class)
 
   pub stands-one : (rs : List (List ℕ)) (w w′ : List ℕ) → Stands c rs w → Stands c rs w′ → w ≡ w′
   stands-one rs w w′ s s′ = class-same c A w w′ (s .accepted) (s′ .accepted) (equivalent-trans P (equivalent-sym P (s .class)) (s′ .class))
 
-  pub list-one : (rs : List (List ℕ)) (w w′ : List ℕ) → AllAccepted (modulus c) (equation c) rs → IsListSum c rs w → IsListSum c rs w′ → w ≡ w′
+  pub list-one : (rs : List (List ℕ)) (w w′ : List ℕ) → AcceptedRow c rs → IsListSum c rs w → IsListSum c rs w′ → w ≡ w′
   list-one rs w w′ a h h′ = stands-one rs w w′ (list-class rs w a h) (list-class rs w′ a h′)
 
-  pub list-append : (rs ts : List (List ℕ)) (u v w : List ℕ) → AllAccepted (modulus c) (equation c) rs → AllAccepted (modulus c) (equation c) ts
+  pub list-append : (rs ts : List (List ℕ)) (u v w : List ℕ) → AcceptedRow c rs → AcceptedRow c ts
       → IsListSum c rs u → IsListSum c ts v → IsSum c u v w → IsListSum c (rs ++ ts) w
   list-append rs ts u v w a b h k s = go (list-class rs u a h) (list-class ts v b k)
     where
       go : Stands c rs u → Stands c ts v → IsListSum c (rs ++ ts) w
-      go hu hv = class-list (rs ++ ts) w (record { accepted = s .0; class = equivalent-trans P joined (sum-law c A u v w (hu .accepted .1) (hv .accepted .1) s (hu .class) (hv .class)) })
+      go hu hv =
+          class-list (rs ++ ts) w
+          (record { accepted = s .0; class = equivalent-trans P joined (sum-law c A u v w (hu .accepted .1) (hv .accepted .1) s (hu .class) (hv .class)) })
         where
           joined : Equivalent (Ring c) (ProductOf (Ring c) (Ideal c) (rs ++ ts)) (Product (Ring c) (ProductOf (Ring c) (Ideal c) rs) (ProductOf (Ring c) (Ideal c) ts))
           joined = equivalent-same P (productof-append (Ring c) (Ideal c) rs ts (all-ideals c A rs a) (all-ideals c A ts b))
@@ -68,21 +71,25 @@ module _ (c : List ℕ) (A : AcceptedCurve c) where
   pub list-single : (r : List ℕ) → Record c r → IsListSum c (r ∷ []) r
   list-single r h = class-reduced c r h (equivalent-same P (productof-one (Ring c) (Ideal c) r (accepted-ideal c A r (h .1))))
 
-  pub list-more : (rs : List (List ℕ)) (r u w : List ℕ) → AllAccepted (modulus c) (equation c) rs → Record c r → IsListSum c rs u → IsSum c u r w
+  pub list-more : (rs : List (List ℕ)) (r u w : List ℕ) → AcceptedRow c rs → Record c r → IsListSum c rs u → IsSum c u r w
       → IsListSum c (rs ++ r ∷ []) w
   list-more rs r u w a h k s = list-append rs (r ∷ []) u r w a (h .1, tt) k (list-single r h) s
 
-  module _ (a : List ℕ) (h : AcceptedDivisor (modulus c) (equation c) a) where
-    pub multiple-add : (m n : ℕ) (u v w : List ℕ) → IsListSum c (replicate m a) u → IsListSum c (replicate n a) v → IsSum c u v w → IsListSum c (replicate (m + n) a) w
+  module _ (a : List ℕ) (h : Accepted c a) where
+    pub multiple-add : (m n : ℕ) (u v w : List ℕ) → IsListSum c (replicate m a) u → IsListSum c (replicate n a) v → IsSum c u v w
+        → IsListSum c (replicate (m + n) a) w
     multiple-add m n u v w k l s =
-        subst (λ (rs : List (List ℕ)). IsListSum c rs w) (replicate-append-replicate m n a) (list-append (replicate m a) (replicate n a) u v w (copies-accepted c m a h) (copies-accepted c n a h) k l s)
+        subst (λ (rs : List (List ℕ)). IsListSum c rs w) (replicate-append-replicate m n a)
+        (list-append (replicate m a) (replicate n a) u v w (copies-accepted c m a h) (copies-accepted c n a h) k l s)
 
     pub multiple-double : (m : ℕ) (u w : List ℕ) → IsListSum c (replicate m a) u → IsSum c u u w → IsListSum c (replicate (m + m) a) w
     multiple-double m u w k s = multiple-add m m u u w k k s
 
     pub multiple-one : (n : ℤ) (w w′ : List ℕ) → IsMultiple c a n w → IsMultiple c a n w′ → w ≡ w′
     multiple-one (pos n) w w′ k l = list-one (replicate n a) w w′ (copies-accepted c n a h) k l
-    multiple-one (negsuc n) w w′ (m, k, s) (m′, k′, s′) = negative-one c A m w w′ (list-class (replicate (suc n) a) m (copies-accepted c (suc n) a h) k .accepted .1) s (subst (λ (t : List ℕ). IsNegative c t w′) same s′)
+    multiple-one (negsuc n) w w′ (m, k, s) (m′, k′, s′) =
+        negative-one c A m w w′ (list-class (replicate (suc n) a) m (copies-accepted c (suc n) a h) k .accepted .1) s
+        (subst (λ (t : List ℕ). IsNegative c t w′) same s′)
       where
         same : m′ ≡ m
         same = list-one (replicate (suc n) a) m′ m (copies-accepted c (suc n) a h) k′ k

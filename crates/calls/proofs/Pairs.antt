@@ -23,13 +23,13 @@ use Rattle.ideal.proofs.Product.{productof-one}
 use Rattle.layout.specs.Layout.{Bytes}
 use Rattle.layout.proofs.Bytes.{bytes-take, bytes-drop}
 use Rattle.record.specs.Curve.{modulus, equation, curve-stages, AcceptedCurve}
-use Rattle.record.specs.Listed.{joined, AllAccepted, Listed, list-limit}
+use Rattle.record.specs.Listed.{joined, Listed, list-limit}
 use Rattle.record.proofs.Lists.{listed-once}
 use Rattle.calls.specs.Class.{Ring, Record, Ideal, poles-on, zero-record, IsListSum}
 use Rattle.calls.specs.Call.{ListSum, list-of, room}
 use Rattle.calls.specs.Pool.{PoolCall, entry, pool-after, groups-after, pool-of, groups-of, Made, alone-from, alone, served, CallAnswers, ListAnswer, PoolEnd}
 use Rattle.calls.proofs.Together.{Together, together-length, together-entry, together-every}
-use Rattle.calls.proofs.Class.{accepted-ideal, class-reduced}
+use Rattle.calls.proofs.Class.{AcceptedRow, accepted-ideal, class-reduced}
 use Rattle.calls.proofs.Multiples.{Stands, stands-one, list-class}
 use Rattle.calls.proofs.Answers.{Answered, short, enough, answer, list-of-sound}
 use Rattle.calls.proofs.Exists.{list-passes}
@@ -44,9 +44,10 @@ parts-bytes (r ∷ rs) b = (
 
 -- "at the start, the group of the record at place i is i alone": for the records ts from place n on
 start-from : (c : List ℕ) (A : AcceptedCurve c) (rs ts : List (List ℕ)) (n : ℕ) → ((k : ℕ) → k < length ts → entry rs (n + k) ≡ entry ts k)
-    → Every Bytes ts → AllAccepted (modulus c) (equation c) ts → Together (Good c rs) (alone-from n (length ts)) ts
+    → Every Bytes ts → AcceptedRow c ts → Together (Good c rs) (alone-from n (length ts)) ts
 start-from c A rs [] n same b a = tt
-start-from c A rs (t ∷ ts) n same b a = (one, start-from c A rs ts (suc n) (λ k l. ap (entry rs) (omega arith) ∙ same (suc k) (omega arith)) (b .1) (a .1))
+start-from c A rs (t ∷ ts) n same b a =
+    (one, start-from c A rs ts (suc n) (λ k l. ap (entry rs) (omega arith) ∙ same (suc k) (omega arith)) (b .1) (a .1))
   where
     P : Poles (Ring c)
     P = poles-on c A
@@ -61,7 +62,9 @@ start-from c A rs (t ∷ ts) n same b a = (one, start-from c A rs ts (suc n) (λ
     one = record {
       accepted = (b .0, a .0);
       ideals = (ideal, tt);
-      class = subst (λ (w : List ℕ). Equivalent (Ring c) (ProductOf (Ring c) (λ i. Ideal c (entry rs i)) (n ∷ [])) (Ideal c w)) here (equivalent-same P (productof-one (Ring c) (λ i. Ideal c (entry rs i)) n ideal));
+      class =
+          subst (λ (w : List ℕ). Equivalent (Ring c) (ProductOf (Ring c) (λ i. Ideal c (entry rs i)) (n ∷ [])) (Ideal c w)) here
+          (equivalent-same P (productof-one (Ring c) (λ i. Ideal c (entry rs i)) n ideal));
     }
 
 pub record Ended (c : List ℕ) (rs gs p : List (List ℕ)) (ks : List PoolCall) : Type 0 where
@@ -73,7 +76,7 @@ module _ (c : List ℕ) (A : AcceptedCurve c) (rs : List (List ℕ)) where
   abbrev P : Poles (Ring c)
   P = poles-on c A
 
-  pub start : Every Bytes rs → AllAccepted (modulus c) (equation c) rs → Kept c rs (alone (length rs)) rs
+  pub start : Every Bytes rs → AcceptedRow c rs → Kept c rs (alone (length rs)) rs
   start b a = record {
     together = start-from c A rs rs 0 (λ k l. ap (entry rs) (omega arith)) b a;
     whole = equivalent-refl P (ProductOf (Ring c) (Ideal c) rs);
@@ -92,7 +95,9 @@ module _ (c : List ℕ) (A : AcceptedCurve c) (rs : List (List ℕ)) where
   module _ (listed : Listed (modulus c) (equation c) (joined rs) rs) (few : length (joined rs) ≤ list-limit) where
     -- the record that is alone in the pool stands for all given records
     last-stands : (gs p : List (List ℕ)) (w : List ℕ) → Kept c rs gs p → p ≡ w ∷ [] → Stands c rs w
-    last-stands gs p w kept e = go (subst (λ (t : List (List ℕ)). Every (Record c) t) e records) (subst (λ (t : List (List ℕ)). Equivalent (Ring c) (ProductOf (Ring c) (Ideal c) t) (ProductOf (Ring c) (Ideal c) rs)) e (kept .whole))
+    last-stands gs p w kept e =
+        go (subst (λ (t : List (List ℕ)). Every (Record c) t) e records)
+        (subst (λ (t : List (List ℕ)). Equivalent (Ring c) (ProductOf (Ring c) (Ideal c) t) (ProductOf (Ring c) (Ideal c) rs)) e (kept .whole))
       where
         records : Every (Record c) p
         records = together-every (Good c rs) (Record c) (λ g v h. h .accepted) gs p (kept .together)
@@ -103,9 +108,11 @@ module _ (c : List ℕ) (A : AcceptedCurve c) (rs : List (List ℕ)) where
           class = equivalent-trans P (equivalent-sym P q) (equivalent-same P (productof-one (Ring c) (Ideal c) w (accepted-ideal c A w (r .1))));
         }
 
-    pub list-answer : (gs p : List (List ℕ)) → Kept c rs gs p → (out : List ℕ) (r : ℤ) (out′ : List ℕ) → room ≤ length out → ListSum c (joined rs) out r out′
+    pub list-answer : (gs p : List (List ℕ)) → Kept c rs gs p → (out : List ℕ) (r : ℤ) (out′ : List ℕ) → room ≤ length out
+        → ListSum c (joined rs) out r out′
         → ListAnswer c rs p out r out′
-    list-answer gs p kept out r out′ l h = go (answer (curve-stages c ++ list-of c (joined rs)) (list-of-sound c (joined rs)) (list-passes c A (joined rs) rs few listed) h)
+    list-answer gs p kept out r out′ l h =
+        go (answer (curve-stages c ++ list-of c (joined rs)) (list-of-sound c (joined rs)) (list-passes c A (joined rs) rs few listed) h)
       where
         at : (w : List ℕ) → r ≡ pos (length w) → out′ ≡ w ++ drop (length w) out → IsListSum c rs w → ListAnswer c rs p out r out′
         at w e q s = record {
@@ -116,9 +123,11 @@ module _ (c : List ℕ) (A : AcceptedCurve c) (rs : List (List ℕ)) where
             give : (v : List ℕ) → w ≡ v → (r ≡ pos (length v)) × (out′ ≡ v ++ drop (length v) out)
             give v same = (e ∙ ap (λ (t : List ℕ). pos (length t)) same, q ∙ ap (λ (t : List ℕ). t ++ drop (length t) out) same)
 
-        go : Answered (λ w. (ts : List (List ℕ)) × Listed (modulus c) (equation c) (joined rs) ts × IsListSum c ts w) out r out′ → ListAnswer c rs p out r out′
+        go : Answered (λ w. (ts : List (List ℕ)) × Listed (modulus c) (equation c) (joined rs) ts × IsListSum c ts w) out r out′
+            → ListAnswer c rs p out r out′
         go (short m e q) = absurd (omega arith)
-        go (enough w m (ts, lt, s) e q) = at w e q (subst (λ (us : List (List ℕ)). IsListSum c us w) (listed-once (modulus c) (equation c) (joined rs) ts rs lt listed) s)
+        go (enough w m (ts, lt, s) e q) =
+            at w e q (subst (λ (us : List (List ℕ)). IsListSum c us w) (listed-once (modulus c) (equation c) (joined rs) ts rs lt listed) s)
 
 -- The claim of document 01, "Adding by pairs", for every accepted curve c, every accepted list s of the records rs and every list ks of calls.
 pub adding-by-pairs : (c s : List ℕ) (rs : List (List ℕ)) → AcceptedCurve c → Bytes s → length s ≤ list-limit → Listed (modulus c) (equation c) s rs
@@ -131,8 +140,13 @@ adding-by-pairs c s rs A b few listed ks made = go (run c A rs ks (alone (length
     go : Ended c rs (alone (length rs)) rs ks → PoolEnd c rs ks
     go h = record {
       answers = h .answers;
-      each = λ m l. let g = together-entry (Good c rs) (groups-of ks (alone (length rs))) (pool-of ks rs) (h .kept .together) m l in class-reduced c (entry (pool-of ks rs) m) (g .accepted) (g .class);
+      each =
+          λ m l. let g =
+          together-entry (Good c rs) (groups-of ks (alone (length rs))) (pool-of ks rs) (h .kept .together) m l in class-reduced c
+          (entry (pool-of ks rs) m) (g .accepted) (g .class);
       groups = together-length (Good c rs) (groups-of ks (alone (length rs))) (pool-of ks rs) (h .kept .together);
       left = h .left;
-      list-call = list-answer c A rs (record { is = refl; accepted = listed .accepted }) (subst (λ (t : List ℕ). length t ≤ list-limit) (listed .is) few) (groups-of ks (alone (length rs))) (pool-of ks rs) (h .kept);
+      list-call =
+          list-answer c A rs (record { is = refl; accepted = listed .accepted }) (subst (λ (t : List ℕ). length t ≤ list-limit) (listed .is) few)
+          (groups-of ks (alone (length rs))) (pool-of ks rs) (h .kept);
     }

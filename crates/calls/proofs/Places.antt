@@ -60,7 +60,9 @@ module _ {A : Type 0} where
   without-none : (n i j : ℕ) (xs : List A) → i < n → j < n → without-from n i j xs ≡ xs
   without-none n i j [] a b = refl
   without-none n i j (x ∷ xs) a b =
-      other-place n i _ _ (omega arith) ∙ other-place n j _ _ (omega arith) ∙ ap (λ (ys : List A). x ∷ ys) (without-none (suc n) i j xs (omega arith) (omega arith))
+      other-place n i _ _ (omega arith)
+      ∙ other-place n j _ _ (omega arith)
+      ∙ ap (λ (ys : List A). x ∷ ys) (without-none (suc n) i j xs (omega arith) (omega arith))
 
   without-turn : (n i j : ℕ) (xs : List A) → without-from n i j xs ≡ without-from n j i xs
   without-turn n i j [] = refl
@@ -71,9 +73,12 @@ module _ {A : Type 0} where
   without-one : (xs : List A) (n i k : ℕ) (d : A) → i < n → k < length xs → List·Permᴰ xs (getD xs k d ∷ without-from n i (n + k) xs)
   without-one [] n i k d a b = absurd (omega arith)
   without-one (x ∷ xs) n i zero d a b =
-      subst (λ (ys : List A). List·Permᴰ (x ∷ xs) (x ∷ ys)) (sym (other-place n i _ _ (omega arith) ∙ same-place n (n + 0) _ _ (omega arith) ∙ without-none (suc n) i (n + 0) xs (omega arith) (omega arith))) (Permᴰ·refl (x ∷ xs))
+      subst (λ (ys : List A). List·Permᴰ (x ∷ xs) (x ∷ ys))
+      (sym (other-place n i _ _ (omega arith) ∙ same-place n (n + 0) _ _ (omega arith) ∙ without-none (suc n) i (n + 0) xs (omega arith) (omega arith)))
+      (Permᴰ·refl (x ∷ xs))
   without-one (x ∷ xs) n i (suc k) d a b =
-      subst (λ (ys : List A). List·Permᴰ (x ∷ xs) (getD xs k d ∷ ys)) (sym left) (List·Permᴰ·trans (List·Permᴰ·cons refl (without-one xs (suc n) i k d (omega arith) (omega arith))) (List·Permᴰ·swap refl refl))
+      subst (λ (ys : List A). List·Permᴰ (x ∷ xs) (getD xs k d ∷ ys)) (sym left)
+      (List·Permᴰ·trans (List·Permᴰ·cons refl (without-one xs (suc n) i k d (omega arith) (omega arith))) (List·Permᴰ·swap refl refl))
     where
       left : without-from n i (n + suc k) (x ∷ xs) ≡ x ∷ without-from (suc n) i (suc n + k) xs
       left =
@@ -86,12 +91,14 @@ module _ {A : Type 0} where
   without-two [] n k l d a b h = absurd (omega arith)
   without-two (x ∷ xs) n zero zero d a b h = absurd (h refl)
   without-two (x ∷ xs) n zero (suc l) d a b h =
-      subst (λ (ys : List A). List·Permᴰ (x ∷ xs) (x ∷ getD xs l d ∷ ys)) (sym left) (List·Permᴰ·cons refl (without-one xs (suc n) (n + 0) l d (omega arith) (omega arith)))
+      subst (λ (ys : List A). List·Permᴰ (x ∷ xs) (x ∷ getD xs l d ∷ ys)) (sym left)
+      (List·Permᴰ·cons refl (without-one xs (suc n) (n + 0) l d (omega arith) (omega arith)))
     where
       left : without-from n (n + 0) (n + suc l) (x ∷ xs) ≡ without-from (suc n) (n + 0) (suc n + l) xs
       left = same-place n (n + 0) _ _ (omega arith) ∙ ap (λ (m : ℕ). without-from (suc n) (n + 0) m xs) (omega arith)
   without-two (x ∷ xs) n (suc k) zero d a b h =
-      subst (λ (ys : List A). List·Permᴰ (x ∷ xs) (getD xs k d ∷ x ∷ ys)) (sym left) (List·Permᴰ·trans (List·Permᴰ·cons refl (without-one xs (suc n) (n + 0) k d (omega arith) (omega arith))) (List·Permᴰ·swap refl refl))
+      subst (λ (ys : List A). List·Permᴰ (x ∷ xs) (getD xs k d ∷ x ∷ ys)) (sym left)
+      (List·Permᴰ·trans (List·Permᴰ·cons refl (without-one xs (suc n) (n + 0) k d (omega arith) (omega arith))) (List·Permᴰ·swap refl refl))
     where
       left : without-from n (n + suc k) (n + 0) (x ∷ xs) ≡ without-from (suc n) (n + 0) (suc n + k) xs
       left =
@@ -110,7 +117,8 @@ module _ {A : Type 0} where
           ∙ ap (λ (m : ℕ). x ∷ without-from (suc n) m (n + suc l) xs) (omega arith)
           ∙ ap (λ (m : ℕ). x ∷ without-from (suc n) (suc n + k) m xs) (omega arith)
 
-  pub without-both : (xs : List A) (i j : ℕ) (d : A) → i < length xs → j < length xs → ¬ (i ≡ j) → List·Permᴰ xs (getD xs i d ∷ getD xs j d ∷ without i j xs)
+  pub without-both : (xs : List A) (i j : ℕ) (d : A) → i < length xs → j < length xs → ¬ (i ≡ j)
+      → List·Permᴰ xs (getD xs i d ∷ getD xs j d ∷ without i j xs)
   without-both xs i j d a b h =
       subst (λ (m : ℕ). List·Permᴰ xs (getD xs i d ∷ getD xs j d ∷ without-from 0 m j xs)) (omega arith)
       (subst (λ (m : ℕ). List·Permᴰ xs (getD xs i d ∷ getD xs j d ∷ without-from 0 (0 + i) m xs)) (omega arith) (without-two xs 0 i j d a b h))

@@ -14,7 +14,6 @@ use lib.ListN.{length, drop, length-append}
 use lib.IntN.{ℤ, pos}
 use Rattle.record.specs.Cause.{Stage, Passes}
 use Rattle.record.specs.Curve.{modulus, equation, curve-stages, AcceptedCurve}
-use Rattle.record.specs.Divisor.{AcceptedDivisor}
 use Rattle.record.specs.Listed.{joined, Listed, list-limit}
 use Rattle.record.proofs.Cause.{AllSound, passes-refuses}
 use Rattle.record.proofs.Lists.{curve-sound, listed-once}
@@ -22,7 +21,7 @@ use Rattle.calls.specs.Answer.{Returns, refused, answered}
 use Rattle.calls.specs.Class.{Record, zero-record, IsSum, IsListSum}
 use Rattle.calls.specs.Call.{CheckCurve, CheckDivisor, Sum, ListSum, Compare, Count, divisor-of, list-of, room, tally}
 use Rattle.calls.specs.Pool.{PoolCall, IsCall}
-use Rattle.calls.proofs.Class.{zero-accepted, sum-one, sum-comm, zero-neutral}
+use Rattle.calls.proofs.Class.{Accepted, zero-accepted, sum-one, sum-comm, zero-neutral}
 use Rattle.calls.proofs.Multiples.{list-one, list-append, list-single}
 use Rattle.calls.proofs.Exists.{one-passes, two-passes, list-passes}
 use Rattle.calls.proofs.Answers.{Answered, short, enough, answer, one-sound, two-sound, list-of-sound, record-fits}
@@ -36,29 +35,33 @@ module _ (c : List ℕ) (A : AcceptedCurve c) where
   pub curve-accepted : (r : ℤ) → CheckCurve c r → r ≡ pos 1
   curve-accepted r h = returned (curve-stages c) (curve-sound c) A h
 
-  pub divisor-accepted : (a : List ℕ) (r : ℤ) → AcceptedDivisor (modulus c) (equation c) a → CheckDivisor c a r → r ≡ pos 1
+  pub divisor-accepted : (a : List ℕ) (r : ℤ) → Accepted c a → CheckDivisor c a r → r ≡ pos 1
   divisor-accepted a r p h = returned (curve-stages c ++ divisor-of c a) (one-sound c a) (one-passes c A a p) h
 
   pub plus-zero : (a out : List ℕ) (r : ℤ) (out′ : List ℕ) → Record c a → room ≤ length out → Sum c a zero-record out r out′
       → (r ≡ pos (length a)) × (out′ ≡ a ++ drop (length a) out)
   plus-zero a out r out′ ra l h =
-      go (answer (curve-stages c ++ divisor-of c a ++ divisor-of c zero-record) (two-sound c a zero-record) (two-passes c A a zero-record (ra .1) (zero-accepted c .1)) h)
+      go
+      (answer (curve-stages c ++ divisor-of c a ++ divisor-of c zero-record) (two-sound c a zero-record) (two-passes c A a zero-record (ra .1) (zero-accepted c .1)) h)
     where
       go : Answered (IsSum c a zero-record) out r out′ → (r ≡ pos (length a)) × (out′ ≡ a ++ drop (length a) out)
       go (short m e q) = absurd (omega arith)
       go (enough w m s e q) = (e ∙ ap (λ (v : List ℕ). pos (length v)) same, q ∙ ap (λ (v : List ℕ). v ++ drop (length v) out) same)
         where
           same : w ≡ a
-          same = sum-one c A a zero-record w (ra .1) (zero-accepted c .1) a s (sum-comm c A zero-record a a (zero-accepted c .1) (ra .1) (zero-neutral c A a ra))
+          same =
+              sum-one c A a zero-record w (ra .1) (zero-accepted c .1) a s
+              (sum-comm c A zero-record a a (zero-accepted c .1) (ra .1) (zero-neutral c A a ra))
 
-  pub compare-self : (a : List ℕ) (r : ℤ) → AcceptedDivisor (modulus c) (equation c) a → Compare c a a r → r ≡ pos 1
+  pub compare-self : (a : List ℕ) (r : ℤ) → Accepted c a → Compare c a a r → r ≡ pos 1
   compare-self a r p h = go (returned (curve-stages c ++ divisor-of c a ++ divisor-of c a) (two-sound c a a) (two-passes c A a a p p) h)
     where
       go : ((a ≡ a) × (r ≡ pos 1)) ⊎ ((¬ (a ≡ a)) × (r ≡ pos 0)) → r ≡ pos 1
       go (inl (e, q)) = q
       go (inr (n, q)) = absurd (n refl)
 
-  pub count-all : (s : List ℕ) (rs : List (List ℕ)) (kind : ℕ) (r : ℤ) → length s ≤ list-limit → Listed (modulus c) (equation c) s rs → Count c s kind r
+  pub count-all : (s : List ℕ) (rs : List (List ℕ)) (kind : ℕ) (r : ℤ) → length s ≤ list-limit → Listed (modulus c) (equation c) s rs
+      → Count c s kind r
       → r ≡ pos (tally kind rs)
   count-all s rs kind r few l h = go (returned (curve-stages c ++ list-of c s) (list-of-sound c s) (list-passes c A s rs few l) h)
     where
@@ -72,9 +75,11 @@ module _ (c : List ℕ) (A : AcceptedCurve c) where
     few : length (joined (a ∷ b ∷ [])) ≤ list-limit
     few = omega (arith, length-append a (b ++ []), length-append b [], record-fits c a ra .1, record-fits c b rb .1)
 
-    pub list-pair : (out : List ℕ) (r s : ℤ) (out′ out″ : List ℕ) → ListSum c (joined (a ∷ b ∷ [])) out r out′ → Sum c a b out s out″ → (r ≡ s) × (out′ ≡ out″)
+    pub list-pair : (out : List ℕ) (r s : ℤ) (out′ out″ : List ℕ) → ListSum c (joined (a ∷ b ∷ [])) out r out′ → Sum c a b out s out″
+        → (r ≡ s) × (out′ ≡ out″)
     list-pair out r s out′ out″ h k =
-        go (answer (curve-stages c ++ list-of c (joined (a ∷ b ∷ []))) (list-of-sound c (joined (a ∷ b ∷ []))) (list-passes c A (joined (a ∷ b ∷ [])) (a ∷ b ∷ []) few pair) h)
+        go
+        (answer (curve-stages c ++ list-of c (joined (a ∷ b ∷ []))) (list-of-sound c (joined (a ∷ b ∷ []))) (list-passes c A (joined (a ∷ b ∷ [])) (a ∷ b ∷ []) few pair) h)
         (answer (curve-stages c ++ divisor-of c a ++ divisor-of c b) (two-sound c a b) (two-passes c A a b (ra .1) (rb .1)) k)
       where
         go : Answered (λ w. (ts : List (List ℕ)) × Listed (modulus c) (equation c) (joined (a ∷ b ∷ [])) ts × IsListSum c ts w) out r out′
@@ -87,7 +92,8 @@ module _ (c : List ℕ) (A : AcceptedCurve c) where
           where
             same : w ≡ w′
             same =
-                list-one c A (a ∷ b ∷ []) w w′ (pair .accepted) (subst (λ (us : List (List ℕ)). IsListSum c us w) (listed-once (modulus c) (equation c) (joined (a ∷ b ∷ [])) ts (a ∷ b ∷ []) l pair) g)
+                list-one c A (a ∷ b ∷ []) w w′ (pair .accepted)
+                (subst (λ (us : List (List ℕ)). IsListSum c us w) (listed-once (modulus c) (equation c) (joined (a ∷ b ∷ [])) ts (a ∷ b ∷ []) l pair) g)
                 (list-append c A (a ∷ []) (b ∷ []) a b w′ (ra .1, tt) (rb .1, tt) (list-single c A a ra) (list-single c A b rb) g′)
 
 -- "With one record or none, no call can be made."

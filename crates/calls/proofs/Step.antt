@@ -14,13 +14,12 @@ use lib.ListN.{length, take, drop, length-append}
 use lib.Seq.{take-append-seam}
 use lib.IntN.{ℤ, pos}
 use lib.Dec.{leb}
-use Rattle.ideal.specs.Ideal.{IsIdeal, ProductOf, Equivalent}
+use Rattle.ideal.specs.Ideal.{IsIdeal, Product, ProductOf, Equivalent}
 use Rattle.ideal.specs.Poles.{Poles}
 use Rattle.ideal.proofs.Every.{Every, every-append}
 use Rattle.ideal.proofs.Class.{equivalent-sym, equivalent-trans}
 use Rattle.ideal.proofs.Product.{productof-join}
 use Rattle.record.specs.Curve.{modulus, equation, curve-stages, AcceptedCurve}
-use Rattle.record.specs.Divisor.{AcceptedDivisor}
 use Rattle.calls.specs.Answer.{minus}
 use Rattle.calls.specs.Class.{Ring, Record, Ideal, poles-on, IsSum}
 use Rattle.calls.specs.Call.{divisor-of, one-if, room}
@@ -53,15 +52,29 @@ module _ (c : List ℕ) (A : AcceptedCurve c) (rs : List (List ℕ)) where
   good-sum g h a b w x y s = record {
     accepted = s .0;
     ideals = every-append (λ i. IsIdeal (Ring c) (Ideal c (entry rs i))) g h (x .ideals) (y .ideals);
-    class = equivalent-trans P (equivalent-sym P (productof-join P (λ i. Ideal c (entry rs i)) g h (x .ideals) (y .ideals) (equivalent-sym P (x .class)) (equivalent-sym P (y .class)))) (sum-class c A a b w (x .accepted .1) (y .accepted .1) s);
+    class =
+        equivalent-trans P
+        (equivalent-sym P (productof-join P (λ i. Ideal c (entry rs i)) g h (x .ideals) (y .ideals) (equivalent-sym P (x .class)) (equivalent-sym P (y .class))))
+        (sum-class c A a b w (x .accepted .1) (y .accepted .1) s);
   }
 
-  module _ (gs p : List (List ℕ)) (kept : Kept c rs gs p) (k : PoolCall) where
+  module _ (gs p : List (List ℕ)) (kept : Kept c rs gs p) (k : PoolCall) (call : IsCall c p k) where
+    first : Good c rs (entry gs (k .i)) (entry p (k .i))
+    first = together-entry (Good c rs) gs p (kept .together) (k .i) (call .i-below)
+
+    second : Good c rs (entry gs (k .j)) (entry p (k .j))
+    second = together-entry (Good c rs) gs p (kept .together) (k .j) (call .j-below)
+
+    moved : List·Permᴰ p (entry p (k .i) ∷ entry p (k .j) ∷ without (k .i) (k .j) p)
+    moved = without-both p (k .i) (k .j) [] (call .i-below) (call .j-below) (call .apart)
+
     -- "Buffer under 40 bytes: the call returns refusal 10. Buffer, pool and groups stay."
     short-step : length (k .before) < room → k .returned ≡ minus 10 → k .after ≡ k .before → Stepped c rs gs p k
     short-step l e q = record {
       answers = record { short = λ _. (e, q); enough = λ m. absurd (omega arith) };
-      kept = subst (λ (t : List (List ℕ)). Kept c rs t (pool-after k p)) (sym (too-short room (length (k .before)) _ gs l)) (subst (λ (t : List (List ℕ)). Kept c rs gs t) (sym stays) kept);
+      kept =
+          subst (λ (t : List (List ℕ)). Kept c rs t (pool-after k p)) (sym (too-short room (length (k .before)) _ gs l))
+          (subst (λ (t : List (List ℕ)). Kept c rs gs t) (sym stays) kept);
       left = omega (arith, ap length stays, tally-no room (length (k .before)) l);
     }
       where
@@ -81,36 +94,41 @@ module _ (c : List ℕ) (A : AcceptedCurve c) (rs : List (List ℕ)) where
       comes : pool-after k p ≡ without (k .i) (k .j) p ++ w ∷ []
       comes = long-enough room (length (k .before)) _ p l ∙ ap (λ (v : List ℕ). without (k .i) (k .j) p ++ v ∷ []) wrote
 
-      module _ (call : IsCall c p k) (s : IsSum c (entry p (k .i)) (entry p (k .j)) w) where
+      module _ (s : IsSum c (entry p (k .i)) (entry p (k .j)) w) where
+        product : Equivalent (Ring c) (Product (Ring c) (Ideal c (entry p (k .i))) (Ideal c (entry p (k .j)))) (Ideal c w)
+        product = sum-class c A (entry p (k .i)) (entry p (k .j)) w (first .accepted .1) (second .accepted .1) s
+
         enough-kept : Kept c rs (without (k .i) (k .j) gs ++ (entry gs (k .i) ++ entry gs (k .j)) ∷ []) (without (k .i) (k .j) p ++ w ∷ [])
         enough-kept = record {
-          together = together-more (Good c rs) (without (k .i) (k .j) gs) (without (k .i) (k .j) p) (entry gs (k .i) ++ entry gs (k .j)) w (together-without (Good c rs) gs p 0 (k .i) (k .j) (kept .together)) (good-sum (entry gs (k .i)) (entry gs (k .j)) (entry p (k .i)) (entry p (k .j)) w first second s);
-          whole = equivalent-trans P (equivalent-sym P (productof-merge P (Ideal c) moved ideals (accepted-ideal c A w (s .0 .1)) (sum-class c A (entry p (k .i)) (entry p (k .j)) w (first .accepted .1) (second .accepted .1) s))) (kept .whole);
+          together =
+              together-more (Good c rs) (without (k .i) (k .j) gs) (without (k .i) (k .j) p) (entry gs (k .i) ++ entry gs (k .j)) w
+              (together-without (Good c rs) gs p 0 (k .i) (k .j) (kept .together))
+              (good-sum (entry gs (k .i)) (entry gs (k .j)) (entry p (k .i)) (entry p (k .j)) w first second s);
+          whole =
+              equivalent-trans P (equivalent-sym P (productof-merge P (Ideal c) moved ideals (accepted-ideal c A w (s .0 .1)) product)) (kept .whole);
         }
           where
-            first : Good c rs (entry gs (k .i)) (entry p (k .i))
-            first = together-entry (Good c rs) gs p (kept .together) (k .i) (call .i-below)
-
-            second : Good c rs (entry gs (k .j)) (entry p (k .j))
-            second = together-entry (Good c rs) gs p (kept .together) (k .j) (call .j-below)
-
-            moved : List·Permᴰ p (entry p (k .i) ∷ entry p (k .j) ∷ without (k .i) (k .j) p)
-            moved = without-both p (k .i) (k .j) [] (call .i-below) (call .j-below) (call .apart)
-
             ideals : Every (λ r. IsIdeal (Ring c) (Ideal c r)) p
-            ideals = together-every (Good c rs) (λ r. IsIdeal (Ring c) (Ideal c r)) (λ g r h. accepted-ideal c A r (h .accepted .1)) gs p (kept .together)
+            ideals =
+                together-every (Good c rs) (λ r. IsIdeal (Ring c) (Ideal c r)) (λ g r h. accepted-ideal c A r (h .accepted .1)) gs p (kept .together)
 
         -- "Its two records leave the pool, the rest close up, and the bytes written come in at the end. The new record's group is the two
         -- groups together."
         enough-step : Stepped c rs gs p k
         enough-step = record {
           answers = enough-answer;
-          kept = subst (λ (t : List (List ℕ)). Kept c rs t (pool-after k p)) (sym (long-enough room (length (k .before)) _ gs l)) (subst (λ (t : List (List ℕ)). Kept c rs (without (k .i) (k .j) gs ++ (entry gs (k .i) ++ entry gs (k .j)) ∷ []) t) (sym comes) enough-kept);
-          left = omega (arith, ap length comes, length-append (without (k .i) (k .j) p) (w ∷ []), perm-length (without-both p (k .i) (k .j) [] (call .i-below) (call .j-below) (call .apart)), tally-yes room (length (k .before)) l);
+          kept =
+              subst (λ (t : List (List ℕ)). Kept c rs t (pool-after k p)) (sym (long-enough room (length (k .before)) _ gs l))
+              (subst (λ (t : List (List ℕ)). Kept c rs (without (k .i) (k .j) gs ++ (entry gs (k .i) ++ entry gs (k .j)) ∷ []) t) (sym comes) enough-kept);
+          left =
+              omega
+              (arith, ap length comes, length-append (without (k .i) (k .j) p) (w ∷ []), perm-length moved, tally-yes room (length (k .before)) l);
         }
 
-    pub step : IsCall c p k → Stepped c rs gs p k
-    step call = go (answer (curve-stages c ++ divisor-of c a ++ divisor-of c b) (two-sound c a b) (two-passes c A a b first second) (call .sum))
+    pub step : Stepped c rs gs p k
+    step =
+        go
+        (answer (curve-stages c ++ divisor-of c a ++ divisor-of c b) (two-sound c a b) (two-passes c A a b (first .accepted .1) (second .accepted .1)) (call .sum))
       where
         a : List ℕ
         a = entry p (k .i)
@@ -118,12 +136,6 @@ module _ (c : List ℕ) (A : AcceptedCurve c) (rs : List (List ℕ)) where
         b : List ℕ
         b = entry p (k .j)
 
-        first : AcceptedDivisor (modulus c) (equation c) a
-        first = together-entry (Good c rs) gs p (kept .together) (k .i) (call .i-below) .accepted .1
-
-        second : AcceptedDivisor (modulus c) (equation c) b
-        second = together-entry (Good c rs) gs p (kept .together) (k .j) (call .j-below) .accepted .1
-
         go : Answered (IsSum c a b) (k .before) (k .returned) (k .after) → Stepped c rs gs p k
         go (short l e q) = short-step l e q
-        go (enough w l s e q) = enough-step w l e q call s
+        go (enough w l s e q) = enough-step w l e q s

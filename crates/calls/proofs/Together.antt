@@ -66,7 +66,9 @@ module _ (Q : List ℕ → List ℕ → Type 0) where
       p′ = without-from (suc n) i j p
 
       go : Together gs′ p′ → Together (pick (eqb n i) gs′ (pick (eqb n j) gs′ (g ∷ gs′))) (pick (eqb n i) p′ (pick (eqb n j) p′ (w ∷ p′)))
-      go h = together-pick (eqb n i) gs′ (pick (eqb n j) gs′ (g ∷ gs′)) p′ (pick (eqb n j) p′ (w ∷ p′)) h (together-pick (eqb n j) gs′ (g ∷ gs′) p′ (w ∷ p′) h (t .0, h))
+      go h =
+          together-pick (eqb n i) gs′ (pick (eqb n j) gs′ (g ∷ gs′)) p′ (pick (eqb n j) p′ (w ∷ p′)) h
+          (together-pick (eqb n j) gs′ (g ∷ gs′) p′ (w ∷ p′) h (t .0, h))
 
   pub together-more : (gs p : List (List ℕ)) (g w : List ℕ) → Together gs p → Q g w → Together (gs ++ g ∷ []) (p ++ w ∷ [])
   together-more [] [] g w t q = (q, tt)

@@ -99,7 +99,8 @@ served (k ∷ ks) = one-if (leb room (length (k .before))) + served ks
 -- "a call is refused exactly when its buffer is under 40 bytes, and then leaves the pool as it was; else … the one that it wrote comes in"
 pub record CallAnswer (k : PoolCall) : Type 0 where
   pub short : length (k .before) < room → (k .returned ≡ minus 10) × (k .after ≡ k .before)
-  pub enough : room ≤ length (k .before) → (k .returned ≡ pos (length (written-by k))) × (k .after ≡ written-by k ++ drop (length (written-by k)) (k .before))
+  pub enough : room ≤ length (k .before)
+      → (k .returned ≡ pos (length (written-by k))) × (k .after ≡ written-by k ++ drop (length (written-by k)) (k .before))
 
 abbrev pub CallAnswers : List PoolCall → Type 0
 CallAnswers [] = Unit
@@ -114,8 +115,10 @@ pub record PoolEnd (c : List ℕ) (rs : List (List ℕ)) (ks : List PoolCall) : 
   pub answers : CallAnswers ks
   -- "each record in the pool is byte for byte the record of the reduced ideal of the product of the ideals of the given records whose
   -- places at the start are in its group"
-  pub each : (m : ℕ) → m < length (pool-of ks rs) → ReducedOf c (ProductOf (Ring c) (λ i. Ideal c (entry rs i)) (entry (groups-of ks (alone (length rs))) m)) (entry (pool-of ks rs) m)
+  pub each : (m : ℕ) → m < length (pool-of ks rs)
+      → ReducedOf c (ProductOf (Ring c) (λ i. Ideal c (entry rs i)) (entry (groups-of ks (alone (length rs))) m)) (entry (pool-of ks rs) m)
   pub groups : length (groups-of ks (alone (length rs))) ≡ length (pool-of ks rs)
   -- "The pool then holds as many records as were given, less one for each call that wasn't refused."
   pub left : length (pool-of ks rs) + served ks ≡ length rs
-  pub list-call : (out : List ℕ) (r : ℤ) (out′ : List ℕ) → room ≤ length out → ListSum c (joined rs) out r out′ → ListAnswer c rs (pool-of ks rs) out r out′
+  pub list-call : (out : List ℕ) (r : ℤ) (out′ : List ℕ) → room ≤ length out → ListSum c (joined rs) out r out′
+      → ListAnswer c rs (pool-of ks rs) out r out′

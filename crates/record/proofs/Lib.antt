@@ -7,3 +7,5 @@ pub mod Lists
 pub mod Unique
 pub mod Suffices
 pub mod Answer
+pub mod DivisorReader
+pub mod CurveReader

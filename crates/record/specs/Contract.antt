@@ -8,18 +8,24 @@
 --   AllBelow p ns          every number of ns is below p
 --   Word s i n             n is the four-byte number at place i of s; 0 if it is not whole
 --   ValueOf s r            r has the kind and the numbers of s, 0 for a number that s has not
+--   coefficients e         the nine coefficients of an equation
+--   equation-stages e      the stages of a curve behind its form, of its equation by value: 3, 4, 5
 --   WriteAsked, WriteAnswer    write_divisor: the record of r at the start of the buffer, the rest as it was
 use mathlib.Core.Path.{_≡_}
 use mathlib.Core.Bool.{Bool, true, false}
 use mathlib.Core.List.{List, [], _∷_, _++_}
 use Prim.Native.Nat.{ℕ, _+_, _*_, _<_, _≤_}
 use lib.ListN.{length, getD, drop}
+use Rattle.prime.specs.Prime.{Prime}
+use Rattle.nonsingular.specs.Nonsingular.{Nonsingular}
+use Rattle.triple.specs.Equation.{curve-of}
+use Rattle.triple.specs.declared.equation.Equation.{Equation}
 use Rattle.divisor.specs.Kind.{Kind, code, count, size}
 use Rattle.basis.specs.Divisor.{numbers}
 use Rattle.basis.specs.declared.Divisor.{Divisor}
 use Rattle.layout.specs.Layout.{number2, number4}
 use Rattle.record.specs.Cause.{Stage, must, FirstCause, Passes}
-use Rattle.record.specs.Curve.{curve-kind, curve-size}
+use Rattle.record.specs.Curve.{curve-kind, curve-size, limit}
 use Rattle.record.specs.Divisor.{of-kind}
 use Rattle.record.specs.Value.{bytes-of}
 
@@ -60,6 +66,16 @@ pub record Word (s : List ℕ) (i n : ℕ) : Type 0 where
 pub record ValueOf (s : List ℕ) (r : Divisor) : Type 0 where
   pub kind : r .kind ≡ number2 s 2
   pub number : (i : ℕ) → i < 9 → Word s (4 + 4 * i) (getD (numbers r) i 0)
+
+abbrev pub coefficients : Equation → List ℕ
+coefficients e = e .c0 ∷ e .c1 ∷ e .c2 ∷ e .c3 ∷ e .c4 ∷ e .c5 ∷ e .c6 ∷ e .c7 ∷ e .c8 ∷ []
+
+abbrev pub equation-stages : Equation → List Stage
+equation-stages e =
+    must 3 (Prime (e .p) × (e .p ≤ limit))
+    ∷ must 4 (AllBelow (e .p) (coefficients e))
+    ∷ must 5 (Nonsingular (curve-of e))
+    ∷ []
 
 pub record WriteAsked (r : Divisor) (out : List ℕ) : Type 0 where
   pub kind : Kind

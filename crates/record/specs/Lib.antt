@@ -5,3 +5,4 @@ pub mod Divisor
 pub mod Listed
 pub mod Value
 pub mod Contract
+pub mod Reading

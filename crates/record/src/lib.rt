@@ -1,10 +1,29 @@
 // Curve and divisor records in bytes: reading, refusing and writing. specs/ says what is accepted and what is refused.
 use basis::Divisor;
+use triple::equation::Equation;
 ghost use mathlib.Core.Path.{_≡_};
 ghost use mathlib.Core.List.{[], _∷_};
 ghost use Prim.Native.Nat.{_≤_};
 ghost use Rattle.basis.specs.Divisor.{numbers};
-ghost use Rattle.record.specs.Contract.{Answers, Checked, Sized, Known, Counted, AllBelow, Word, ValueOf, WriteAsked, WriteAnswer, curve-form, divisor-form};
+ghost use Rattle.record.specs.Contract.{Answers, Checked, Sized, Known, Counted, AllBelow, Word, ValueOf, WriteAsked, WriteAnswer, curve-form, divisor-form, coefficients, equation-stages};
+ghost use Rattle.record.specs.Reading.{OnCurve, equation-value, CurveRead, DivisorRead, NextRead};
+ghost use Rattle.triple.specs.Equation.{curve-of};
+
+pub enum CurveAnswer {
+    Curve(Equation),
+    Refused(u32),
+}
+
+pub enum DivisorAnswer {
+    Divisor(Divisor),
+    Refused(u32),
+}
+
+// A divisor and the length of its record.
+pub enum NextAnswer {
+    Next(Divisor, usize),
+    Refused(u32),
+}
 
 // Is the length field that of the bytes given?
 fn sized(s: &[u8]) -> bool
@@ -153,6 +172,117 @@ fn all_below(p: u32, r: Divisor) -> bool
         return false;
     }
     three_below(p, r.n6, r.n7, r.n8)
+}
+
+// A divisor on the curve e, of which f is the vector of y³: accepted or refused.
+pub fn read_divisor(e: Equation, f: &[u32; 26], s: &[u8]) -> DivisorAnswer
+    requires { ⌜ OnCurve e (now f) ⌝ }
+    ensures { λ r. ⌜ DivisorRead (e .p) (curve-of e) (now (s .entry)) r ⌝ }
+{
+    let form = divisor_form(s);
+    if form != 0 {
+        return DivisorAnswer::Refused(form);
+    }
+    let r = value(s);
+    if !all_below(e.p, r) {
+        return DivisorAnswer::Refused(8);
+    }
+    if !basis::is_basis(e.p, f, r) {
+        return DivisorAnswer::Refused(9);
+    }
+    DivisorAnswer::Divisor(r)
+}
+
+// The divisor that starts at the start of s, the bytes left of a list, and the length of its record.
+pub fn read_next(e: Equation, f: &[u32; 26], s: &[u8]) -> NextAnswer
+    requires { ⌜ OnCurve e (now f) ⌝ }
+    ensures { λ r. ⌜ NextRead (e .p) (curve-of e) (now (s .entry)) r ⌝ }
+{
+    if s.len() < 4 {
+        return NextAnswer::Refused(6);
+    }
+    let n = layout::read_u16(s, 0) as usize;
+    if n < 4 {
+        return NextAnswer::Refused(6);
+    }
+    if s.len() < n {
+        return NextAnswer::Refused(6);
+    }
+    let read = read_divisor(e, f, &s[..n]);
+    match read {
+        DivisorAnswer::Divisor(r) => NextAnswer::Next(r, n),
+        DivisorAnswer::Refused(cause) => NextAnswer::Refused(cause),
+    }
+}
+
+// The equation of a curve's bytes.
+fn equation(s: &[u8]) -> Equation
+    requires { do ⌜ (← ⟦s.len()⟧) ≡ 44 ⌝ }
+    ensures { λ r. ⌜ r ≡ equation-value (now (s .entry)) ⌝ }
+{
+    Equation {
+        p: layout::read_u32(s, 4),
+        a0: 1,
+        c0: layout::read_u32(s, 8),
+        c1: layout::read_u32(s, 12),
+        c2: layout::read_u32(s, 16),
+        c3: layout::read_u32(s, 20),
+        c4: layout::read_u32(s, 24),
+        c5: layout::read_u32(s, 28),
+        c6: layout::read_u32(s, 32),
+        c7: layout::read_u32(s, 36),
+        c8: layout::read_u32(s, 40),
+    }
+}
+
+// Are all coefficients below p?
+fn coefficients_below(e: Equation) -> bool
+    ensures { λ b. ⌜ Answers (AllBelow (e .p) (coefficients e)) b ⌝ }
+{
+    if !three_below(e.p, e.c0, e.c1, e.c2) {
+        return false;
+    }
+    if !three_below(e.p, e.c3, e.c4, e.c5) {
+        return false;
+    }
+    three_below(e.p, e.c6, e.c7, e.c8)
+}
+
+// The refusal of a curve for its modulus, a coefficient or a singular point; 0 for none.
+fn equation_cause(e: Equation) -> u32
+    requires { ⌜ e .a0 ≡ 1 ⌝ }
+    ensures { λ r. ⌜ Checked (equation-stages e) r ⌝ }
+{
+    if 2147483647 < e.p {
+        return 3;
+    }
+    if !prime::is_prime(e.p) {
+        return 3;
+    }
+    if !coefficients_below(e) {
+        return 4;
+    }
+    let f = triple::equation::cube(e);
+    if !triple::equation::nonsingular(e, &f) {
+        return 5;
+    }
+    0
+}
+
+// A curve: accepted or refused.
+pub fn read_curve(s: &[u8]) -> CurveAnswer
+    ensures { λ r. ⌜ CurveRead (now (s .entry)) r ⌝ }
+{
+    let form = curve_form(s);
+    if form != 0 {
+        return CurveAnswer::Refused(form);
+    }
+    let e = equation(s);
+    let cause = equation_cause(e);
+    if cause != 0 {
+        return CurveAnswer::Refused(cause);
+    }
+    CurveAnswer::Curve(e)
 }
 
 // Writes the record of a divisor at the start of `out`, and returns its length.

@@ -16,7 +16,7 @@ use Rattle.algebra.specs.Ring.{CommRing}
 use Rattle.ideal.specs.Ideal.{SameIdeal}
 use Rattle.ideal.specs.Poles.{Poles}
 use Rattle.ideal.proofs.Every.{Every, every-append, every-left, every-right}
-use Rattle.ideal.proofs.Reduced.{same-trans}
+use Rattle.ideal.proofs.Same.{same-trans}
 use Rattle.ideal.proofs.Span.{Span, span-each, span-same, span-within}
 use Rattle.vector.specs.Vector.{at, row, element}
 use Rattle.triple.specs.Setting.{Setting, ring, poles-of}
@@ -49,7 +49,7 @@ module _ {p top : ℕ} {t : List (List ℕ)} {d : List ℕ} {ys : List (List ℕ
     fill-more {t″} {d″} l r = subst (Filling p t ys t″ d″) (sym (add-one j)) (record { bound = l; triple = r .triple; same = same })
       where
         same : (S : Setting p) → SameIdeal (ring S) (Spanned S t″) (Span (poles-of S) (listed (λ i. element p (S .curve) (row ys i)) (suc j) (elements S t)))
-        same S = same-trans (poles-of S) (r .same S) (span-cons (poles-of S) (elements S t′) (listed (λ i. element p (S .curve) (row ys i)) j (elements S t)) (element p (S .curve) (row ys j)) (q .same S))
+        same S = same-trans (ring S) (r .same S) (span-cons (poles-of S) (elements S t′) (listed (λ i. element p (S .curve) (row ys i)) j (elements S t)) (element p (S .curve) (row ys j)) (q .same S))
 
     module _ (S : Setting p) where
       abbrev part : List (ring S .Car)
@@ -71,7 +71,7 @@ module _ {p top : ℕ} {t : List (List ℕ)} {d : List ℕ} {ys : List (List ℕ
           (listed-rest (Span (poles-of S) part) (λ i. element p (S .curve) (row ys i)) j (elements S t) (span-each (poles-of S) part))
 
     pub fill-end : 3 ≤ j → AllInserted p t d ys t′ d′
-    fill-end k = record { triple = q .triple; same = λ S. same-trans (poles-of S) (q .same S) (span-same (poles-of S) (part S) (all S) (there S) (back S k)) }
+    fill-end k = record { triple = q .triple; same = λ S. same-trans (ring S) (q .same S) (span-same (poles-of S) (part S) (all S) (there S) (back S k)) }
 
     pub fill-stop : Whole d′ → AllInserted p t d ys t′ d′
     fill-stop w = record { triple = q .triple; same = λ S g. (λ m. span-within (poles-of S) (part S) (all S) (there S) g (q .same S g .0 m), λ m. whole-all S (q .triple) w g) }

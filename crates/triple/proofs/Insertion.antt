@@ -13,7 +13,7 @@ use Rattle.ideal.specs.Ideal.{SameIdeal}
 use Rattle.ideal.specs.Poles.{HasPole}
 use Rattle.ideal.proofs.Degree.{monic-pole}
 use Rattle.ideal.proofs.Every.{Every, every-map}
-use Rattle.ideal.proofs.Reduced.{same-trans, same-sym}
+use Rattle.ideal.proofs.Same.{same-trans, same-sym}
 use Rattle.ideal.proofs.Span.{Span, span-each, span-first, span-nil, span-rest, span-same}
 use Rattle.vector.specs.Vector.{Vec, Top, at, row, element, width}
 use Rattle.triple.specs.Setting.{Setting, ring, poles-of}
@@ -60,12 +60,12 @@ module _ {p n : ℕ} {t : List (List ℕ)} {d v : List ℕ} {t′ : List (List �
         vec = q .vec;
         v-top = q .v-top;
         room = q .room;
-        same = λ S. same-trans (poles-of S) (q .same S) (h .same S);
+        same = λ S. same-trans (ring S) (q .same S) (h .same S);
       }
 
   -- without v, which is zero
   spanned : n ≡ 0 → (S : Setting p) → SameIdeal (ring S) (Spanned S t′) (Span (poles-of S) (element p (S .curve) v ∷ elements S t))
-  spanned e S = same-trans (poles-of S) (span-same (poles-of S) (elements S t′) (element p (S .curve) v′ ∷ elements S t′) (every-map (span-rest (poles-of S) _ (elements S t′)) (elements S t′) each) (subst (Spanned S t′) (sym gone) (span-nil (poles-of S) (elements S t′)), each)) (h .same S)
+  spanned e S = same-trans (ring S) (span-same (poles-of S) (elements S t′) (element p (S .curve) v′ ∷ elements S t′) (every-map (span-rest (poles-of S) _ (elements S t′)) (elements S t′) each) (subst (Spanned S t′) (sym gone) (span-nil (poles-of S) (elements S t′)), each)) (h .same S)
     where
       each : Every (Spanned S t′) (elements S t′)
       each = span-each (poles-of S) (elements S t′)

@@ -22,7 +22,7 @@ use Rattle.ideal.specs.Poles.{Poles, HasPole}
 use Rattle.ideal.proofs.Degree.{monic-pole, pole-mul}
 use Rattle.ideal.proofs.Every.{Every, every-map, every-append, every-image}
 use Rattle.ideal.proofs.Generated.{products, products-source}
-use Rattle.ideal.proofs.Reduced.{same-sym, same-trans}
+use Rattle.ideal.proofs.Same.{same-sym, same-trans}
 use Rattle.ideal.proofs.Span.{Span, span-each, span-first, span-nil, span-product, span-rest, span-same, span-within}
 use Rattle.vector.specs.Vector.{Vec, Top, at, row, element, width}
 use Rattle.vector.specs.Contract.{Rows, RowsOf, YMultiplesAsked, YMultiples, TimesAsked, Times}
@@ -128,7 +128,7 @@ module _ {p top : ℕ} {t₁ : List (List ℕ)} {d₁ : List ℕ} {ys t : List (
           same : (S : Setting p) (g : ring S .Car) → RowsOf p (S .curve) ys g → SameIdeal (ring S) (Spanned S t″) (Span (poles-of S) (listed (λ i. ring S .mul (element p (S .curve) (row t₁ i)) g) (suc i) (elements S t)))
           same S g o =
               subst (λ u. SameIdeal (ring S) (Spanned S t″) (Span (poles-of S) (u ∷ listed (λ i. ring S .mul (element p (S .curve) (row t₁ i)) g) i (elements S t)))) (m .value (S .curve) g o)
-              (same-trans (poles-of S) (r .same S) (span-cons (poles-of S) (elements S t′) (listed (λ i. ring S .mul (element p (S .curve) (row t₁ i)) g) i (elements S t)) (element p (S .curve) v) (q .same S g o)))
+              (same-trans (ring S) (r .same S) (span-cons (poles-of S) (elements S t′) (listed (λ i. ring S .mul (element p (S .curve) (row t₁ i)) g) i (elements S t)) (element p (S .curve) v) (q .same S g o)))
 
 pub put-end : {p i : ℕ} {t₁ ys t t′ : List (List ℕ)} {d′ : List ℕ} → Putting p t₁ ys t t′ d′ i → 3 ≤ i → Put p t₁ ys t t′ d′
 put-end {p} {i} {t₁} {ys} {t} {t′} {d′} q l = record { triple = q .triple; same = subst (Putting p t₁ ys t t′ d′) {x = i} {y = 3} (omega (arith, q .bound)) q .same }
@@ -172,7 +172,7 @@ module _ {p : ℕ} {f : List ℕ} {t₁ : List (List ℕ)} {d₁ : List ℕ} {t�
       multiply-more {t′} {d′} r = subst (Multiplying p f t₁ t₂ t′ d′) (sym (add-one j)) (record { bound = l; triple = r .triple; same = same })
         where
           same : (R : Ready p f) → SameIdeal (ring (R .setting)) (Spanned (R .setting) t′) (Span (poles-of (R .setting)) (outer (R .setting) t₁ t₂ (suc j)))
-          same R = same-trans (poles-of S) (r .same S (element p (S .curve) (row t₂ j)) (m .value (S .curve) (R .cube))) (listed-same (poles-of S) (λ i. ring S .mul (element p (S .curve) (row t₁ i)) (element p (S .curve) (row t₂ j))) 3 (elements S t) (outer S t₁ t₂ j) (q .same R))
+          same R = same-trans (ring S) (r .same S (element p (S .curve) (row t₂ j)) (m .value (S .curve) (R .cube))) (listed-same (poles-of S) (λ i. ring S .mul (element p (S .curve) (row t₁ i)) (element p (S .curve) (row t₂ j))) 3 (elements S t) (outer S t₁ t₂ j) (q .same R))
             where
               S : Setting p
               S = R .setting
@@ -195,7 +195,7 @@ module _ {p : ℕ} (S : Setting p) (t₁ t₂ : List (List ℕ)) (Q : ring S .Ca
 
 module _ {p : ℕ} (S : Setting p) (t₁ t₂ : List (List ℕ)) (len₁ : length t₁ ≡ 3) (len₂ : length t₂ ≡ 3) where
   pub outer-product : SameIdeal (ring S) (Span (poles-of S) (outer S t₁ t₂ 3)) (Product (ring S) (Spanned S t₁) (Spanned S t₂))
-  outer-product = same-trans (poles-of S) (span-same (poles-of S) (outer S t₁ t₂ 3) all there back) (same-sym (poles-of S) (span-product (poles-of S) (elements S t₁) (elements S t₂)))
+  outer-product = same-trans (ring S) (span-same (poles-of S) (outer S t₁ t₂ 3) all there back) (same-sym (ring S) (span-product (poles-of S) (elements S t₁) (elements S t₂)))
     where
       all : List (ring S .Car)
       all = products (ring S) (elements S t₁) (elements S t₂)
@@ -227,4 +227,4 @@ module _ {p j : ℕ} {f : List ℕ} {t₁ : List (List ℕ)} {d₁ : List ℕ} {
       inside = done .same (h .ready) _ .1 (outer-at S t₁ t₂ (Span (poles-of S) (outer S t₁ t₂ 3)) 3 (span-each (poles-of S) (outer S t₁ t₂ 3)) 0 i (omega arith) l)
 
   pub multiply-end : Multiplied p f t₁ t₂ t d
-  multiply-end = record { full = full-of (q .triple) filled; same = λ R. same-trans (poles-of (R .setting)) (done .same R) (outer-product (R .setting) t₁ t₂ (h .full₁ .triple .len-t) (h .full₂ .triple .len-t)) }
+  multiply-end = record { full = full-of (q .triple) filled; same = λ R. same-trans (ring (R .setting)) (done .same R) (outer-product (R .setting) t₁ t₂ (h .full₁ .triple .len-t) (h .full₂ .triple .len-t)) }

@@ -14,7 +14,7 @@ use lib.ListN.{length, set, length-set}
 use lib.Seq.{getD-set-same, getD-set-other}
 use Rattle.algebra.specs.Ring.{CommRing}
 use Rattle.ideal.specs.Ideal.{SameIdeal}
-use Rattle.ideal.proofs.Reduced.{same-trans}
+use Rattle.ideal.proofs.Same.{same-trans}
 use Rattle.ideal.proofs.Span.{Span, inx-mul, span-times}
 use Rattle.vector.specs.Vector.{Vec, Top, at, row, element, width}
 use Rattle.vector.specs.Contract.{ClearAsked, Cleared, MonicAsked, MadeMonic}
@@ -116,7 +116,7 @@ module _ {p m : ℕ} {t : List (List ℕ)} {d v : List ℕ} (h : TurnAsked p t d
           v-top = c .top (present k .top);
           room = omega arith;
           falls = omega (arith, exchanged);
-          same = λ S. same-trans (poles-of S) (cleared-same (set t j u) j (omega (arith, long, length-set t j u)) c S) (swapped S);
+          same = λ S. same-trans (ring S) (cleared-same (set t j u) j (omega (arith, long, length-set t j u)) c S) (swapped S);
         }
 
     pub turn-fill : width ≤ at d j → Turned p t d v m (set t j u) (set d j m) (row t j) 0

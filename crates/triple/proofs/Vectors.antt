@@ -21,7 +21,7 @@ use Rattle.field.specs.Contract.{Is}
 use Rattle.ideal.proofs.Every.{Every}
 use Rattle.curve.specs.Curve.{Curve, Coordinate, y}
 use Rattle.curve.specs.Curve as K
-use Rattle.curve.specs.Back.{back, back-low, back-high, weigh, weigh-from}
+use Rattle.curve.specs.Back.{back, back-low, back-high, weigh, weigh-from, weigh-vanish}
 use Rattle.curve.specs.Coefficient.{at-ext, at-one-0, at-one-x, at-one-y, at-y-0, at-y-1, at-y-2}
 use Rattle.curve.specs.Pole.{pole}
 use Rattle.curve.specs.Monomial.{coefficient}
@@ -31,7 +31,6 @@ use Rattle.nonsingular.proofs.Derivative.{coefficient-derivative-x, coefficient
 use Rattle.vector.specs.Vector.{Vec, Top, at, res, element}
 use Rattle.vector.proofs.Loop.{zeros-at}
 use Rattle.vector.proofs.Element.{element-at, element-coefficient}
-use Rattle.vector.proofs.Monomial.{flat-0, flat-1, flat-2}
 use Rattle.triple.specs.declared.equation.Equation.{Equation}
 use Rattle.triple.specs.Equation.{curve-of, Coefficients, IsCube, DerivativeAsked, DerivativeX, DerivativeY}
 
@@ -55,6 +54,23 @@ padded-res p [] (x ∷ xs) k m n = absurd m
 padded-res p (a ∷ ns) [] k m n = absurd m
 padded-res p (a ∷ ns) (x ∷ xs) k (e, es) zero = e
 padded-res p (a ∷ ns) (x ∷ xs) k (e, es) (suc n) = padded-res p ns xs k es n
+
+-- y·g for a g without y²: y moves the coefficients by one power of y
+module _ {k : CommRing} (C : Curve k) (g : Coordinate C .Car) (flat : (i : ℕ) → K.at C i 2 g ≡ k .zero) where
+  minus-zero : (a b : k .Car) → b ≡ k .zero → k .add a (k .neg b) ≡ a
+  minus-zero a b e = ap (λ u. k .add a (k .neg u)) e ∙ ap (k .add a) (L.neg-zero k) ∙ k .add-zero a
+
+  flat-0 : (i : ℕ) → K.at C i 0 (Coordinate C .mul (y C) g) ≡ k .zero
+  flat-0 i =
+      at-y-0 C i g
+      ∙ ap (k .neg) (weigh-vanish k 0 (C .c0 ∷ C .c1 ∷ C .c3 ∷ C .c6 ∷ C .a0 ∷ []) (λ m. K.at C m 2 g) i (λ m u. flat m))
+      ∙ L.neg-zero k
+
+  flat-1 : (i : ℕ) → K.at C i 1 (Coordinate C .mul (y C) g) ≡ K.at C i 0 g
+  flat-1 i = at-y-1 C i g ∙ minus-zero _ _ (weigh-vanish k 0 (C .c2 ∷ C .c4 ∷ C .c7 ∷ []) (λ m. K.at C m 2 g) i (λ m u. flat m))
+
+  flat-2 : (i : ℕ) → K.at C i 2 (Coordinate C .mul (y C) g) ≡ K.at C i 1 g
+  flat-2 i = at-y-2 C i g ∙ minus-zero _ _ (weigh-vanish k 0 (C .c5 ∷ C .c8 ∷ []) (λ m. K.at C m 2 g) i (λ m u. flat m))
 
 -- f is 1 at 0 and 0 elsewhere
 module _ (k : CommRing) (f : ℕ → k .Car) (first : f 0 ≡ k .one) (next : (n : ℕ) → f (suc n) ≡ k .zero) where

@@ -3,7 +3,7 @@
 --   set-cases          what holds of the new number at n and of the old ones elsewhere holds after a store
 --   vec-set            a store keeps a vector, if the new number is below p, and 0 at a gap
 --   zeros-at           an array of zeros
---   added-start, added-more, added-end            axpy; added-none with the factor 0
+--   added-start, added-more, added-end            axpy; added-none with the factor 0, added-skip at a number 0
 --   scaled-start, scaled-more, scaled-end         scale
 --   shifted-start, shifted-more, shifted-skip, shifted-end      shift_y
 --   paired-start, paired-more, paired-end         dot
@@ -103,6 +103,24 @@ added-more {p} {c} {s} {e} {i} {v} {r} {b} {r′} h a l n =
             ∙ ap (λ u. Z p .add (Z p .mul (el p c) u) u) (el-zero p)
             ∙ ap (λ u. Z p .add u (Z p .zero)) (L.mul-zero (Z p) _)
             ∙ Z p .add-zero _
+
+pub added-skip : {p c s i : ℕ} {r b r′ : List ℕ} → Added p r c b s i r′ → at b i ≡ 0 → Added p r c b s (i + 1) r′
+added-skip {p} {c} {s} {i} {r} {b} {r′} a z =
+    record {
+      vec = a .vec;
+      new = λ j m. go j m (ℕ-discrete j i);
+      low = a .low;
+      high = λ n m. a .high n (omega arith);
+    }
+  where
+    here : res p r′ (i + s) ≡ Z p .add (Z p .mul (el p c) (res p b i)) (res p r (i + s))
+    here =
+        ap (el p) (a .high (i + s) (omega arith))
+        ∙ sym (cc (ap (el p) z, el-zero p, L.mul-zero (Z p) (el p c), L.zero-add (Z p) (res p r (i + s))))
+
+    go : (j : ℕ) → j < i + 1 → Dec (j ≡ i) → res p r′ (j + s) ≡ Z p .add (Z p .mul (el p c) (res p b j)) (res p r (j + s))
+    go j m (yes d) = subst (λ k. res p r′ (k + s) ≡ Z p .add (Z p .mul (el p c) (res p b k)) (res p r (k + s))) (sym d) here
+    go j m (no d) = a .new j (omega arith)
 
 pub added-end : {p c s e i : ℕ} {r b r′ : List ℕ} → Added p r c b s i r′ → i ≡ e → Added p r c b s e r′
 added-end {p} {c} {s} {r = r} {b = b} {r′ = r′} a d = subst (λ k. Added p r c b s k r′) d a

@@ -16,8 +16,13 @@ pub fn axpy(p: u32, r: &mut [u32; 26], c: u32, b: &[u32; 26], s: usize, e: usize
     }
     let mut i = 0;
     while i < e {
+        let a = b[i];
+        if a == 0 {
+            i += 1;
+            continue;
+        }
         let n = i + s;
-        r[n] = field::mul_add(p, c, b[i], r[n]);
+        r[n] = field::mul_add(p, c, a, r[n]);
         i += 1;
     }
 }

@@ -27,7 +27,7 @@ returns c = λ κ e.
     let w = c .before .before .write-record .ensures in
     let n = c .before .before .before .before .count-of .ensures .is κ e in
     record {
-      long = w .0 ∙ ap (λ (m : ℕ). 4 + 4 * m) n;
+      long = cc (w .0, ap (λ (m : ℕ). 4 + 4 * m) n);
       bytes = written-bytes (a .r) κ (a .r .kind) (c .before .before .before .before .count-of .result) (now (a .out)) (c .before .before .write-record .last .0) e n (w .1);
     }
 

@@ -2,7 +2,7 @@
 use Prim.Native.Nat.{_≤_, _-_}
 use native.Mathlib.Omega.{arith}
 use borrow.Author.Needs.{needs}
-use Rattle.vector.proofs.Loop.{added-start, added-none, added-more, added-end}
+use Rattle.vector.proofs.Loop.{added-start, added-none, added-skip, added-more, added-end}
 use Rattle.vector.specs.Contract.{Added}
 use Rattle.vector.proofs.axpy.Statement.{statement}
 use Rattle.vector.proofs.axpy.Tie as tie
@@ -19,6 +19,21 @@ returns c = added-none (c .before .pre) (c .if1 .taken)
 loop-holds : tie.Need-loop-holds Inv-loop μ-loop
 loop-holds c = (added-start (c .before .pre), omega arith)
 
+mul-a : tie.Need-mul-a Inv-loop μ-loop
+mul-a c = search needs
+
+element-copy-out-a : tie.Need-element-copy-out-a Inv-loop μ-loop
+element-copy-out-a c = search needs
+
+add-i : tie.Need-add-i Inv-loop μ-loop
+add-i c = search needs
+
+loop-less : tie.Need-loop-less Inv-loop μ-loop
+loop-less c = search needs
+
+loop-again : tie.Need-loop-again Inv-loop μ-loop
+loop-again c = (added-skip (c .before .before .before .loop .inv .0) (c .if2 .taken), omega arith)
+
 add-n : tie.Need-add-n Inv-loop μ-loop
 add-n c = search needs
 
@@ -28,14 +43,8 @@ mul-mul-add c = search needs
 element-copy-out-mul-add : tie.Need-element-copy-out-mul-add Inv-loop μ-loop
 element-copy-out-mul-add c = search needs
 
-mul-mul-add-2 : tie.Need-mul-mul-add-2 Inv-loop μ-loop
-mul-mul-add-2 c = search needs
-
-element-copy-out-mul-add-2 : tie.Need-element-copy-out-mul-add-2 Inv-loop μ-loop
-element-copy-out-mul-add-2 c = search needs
-
 mul-add-requires : tie.Need-mul-add-requires Inv-loop μ-loop
-mul-add-requires c κs = record { below-1 = c .before .before .before .before .before .pre .c-below; below-2 = c .before .before .before .before .before .pre .b-vec .below _; below-3 = c .before .before .before .loop .inv .0 .vec .below _ }
+mul-add-requires c κs = record { below-1 = c .before .before .before .before .before .before .pre .c-below; below-2 = c .before .before .before .before .before .before .pre .b-vec .below _; below-3 = c .before .before .before .before .loop .inv .0 .vec .below _ }
 
 mul-r : tie.Need-mul-r Inv-loop μ-loop
 mul-r c = search needs
@@ -43,14 +52,14 @@ mul-r c = search needs
 element-write-r : tie.Need-element-write-r Inv-loop μ-loop
 element-write-r c = search needs
 
-add-i : tie.Need-add-i Inv-loop μ-loop
-add-i c = search needs
+add-i-2 : tie.Need-add-i-2 Inv-loop μ-loop
+add-i-2 c = search needs
 
-loop-less : tie.Need-loop-less Inv-loop μ-loop
-loop-less c = search needs
+loop-less-2 : tie.Need-loop-less-2 Inv-loop μ-loop
+loop-less-2 c = search needs
 
-loop-again : tie.Need-loop-again Inv-loop μ-loop
-loop-again c = (added-more (c .before .before .before .before .before .before .pre) (c .before .before .before .before .loop .inv .0) (c .before .before .before .loop-test .taken) (c .mul-add .ensures), omega arith)
+loop-again-2 : tie.Need-loop-again-2 Inv-loop μ-loop
+loop-again-2 c = (added-more (c .before .before .before .before .before .before .before .pre) (c .before .before .before .before .before .loop .inv .0) (c .before .before .before .before .loop-test .taken) (c .mul-add .ensures), omega arith)
 
 returns-2 : tie.Need-returns-2 Inv-loop μ-loop
 returns-2 c = added-end (c .before .loop .inv .0) (omega arith)
@@ -63,15 +72,18 @@ axpy-spec =
     μ-loop
     returns
     loop-holds
-    add-n
-    mul-mul-add
-    element-copy-out-mul-add
-    mul-mul-add-2
-    element-copy-out-mul-add-2
-    mul-add-requires
-    mul-r
-    element-write-r
+    mul-a
+    element-copy-out-a
     add-i
     loop-less
     loop-again
+    add-n
+    mul-mul-add
+    element-copy-out-mul-add
+    mul-add-requires
+    mul-r
+    element-write-r
+    add-i-2
+    loop-less-2
+    loop-again-2
     returns-2)

@@ -1,0 +1,168 @@
+-- What the reader of a divisor finds, stage by stage. r is the value that it reads of the bytes s, whose form is accepted.
+--   ready-of           the setting of a curve by value
+--   divisor-rest       the stages behind the form
+--   value-shaped, value-holds      r has the kind and the numbers of s
+--   refused-8, refused-9, given    a number that is not below p; no basis; an accepted divisor
+--   basis-asked, found-no-basis, found-basis    the same by the test of basis
+--   next-short, next-field, next-is-given, next-is-refused    the record at the start of a list's bytes
+use mathlib.Core.Path.{_≡_, refl, sym, ap, _∙_, subst}
+use mathlib.Core.Bool.{Bool, true, false}
+use mathlib.Core.Logic.{_⊎_, inl, inr}
+use mathlib.Core.List.{List, [], _∷_}
+use Prim.Native.Nat.{ℕ, _+_, _*_, _<_, _≤_}
+use native.Mathlib.Omega.{arith}
+use native.Mathlib.Decide.{decLt}
+use lib.ListN.{length, getD, take, List·getD-eq-default}
+use Rattle.algebra.specs.Ring.{CommRing}
+use Rattle.prime.specs.Prime.{Prime}
+use Rattle.field.specs.Residue.{Z, el}
+use Rattle.curve.specs.Curve.{Curve}
+use Rattle.divisor.specs.Kind.{Kind, code, count, size, IsBasis}
+use Rattle.layout.specs.Layout.{Bytes, number2, number4}
+use Rattle.triple.specs.Setting.{Ready}
+use Rattle.triple.specs.Equation.{curve-of}
+use Rattle.triple.specs.declared.equation.Equation.{Equation}
+use Rattle.basis.specs.Divisor.{numbers, residues, Shaped, Based}
+use Rattle.basis.specs.declared.Divisor.{Divisor}
+use Rattle.basis.specs.Contract.{BasisAsked, BasisTest}
+use Rattle.record.specs.Cause.{Stage, must, FirstCause, Passes}
+use Rattle.record.specs.Contract.{AllBelow, ValueOf, divisor-form}
+use Rattle.record.specs.Divisor.{of-kind, number-at, divisor-stages}
+use Rattle.record.specs.Listed.{next-stages}
+use Rattle.record.specs.Reading.{OnCurve, DivisorGiven, DivisorRead, NextRead}
+use Rattle.record.specs.declared.DivisorAnswer.{DivisorAnswer}
+use Rattle.record.specs.declared.DivisorAnswer.the-variants as answer
+use Rattle.record.specs.declared.NextAnswer.the-variants as next
+use Rattle.record.proofs.Accepted.{Reads, reads-accepted, same-kind}
+use Rattle.record.proofs.Answer.{below-at, at-below}
+use Rattle.record.proofs.Codes.{count-small, basis-same}
+use Rattle.record.proofs.Written.{Holds, read-back, read-based}
+
+abbrev pub ready-of : (e : Equation) (f : List ℕ) → OnCurve e f → Ready (e .p) f
+ready-of e f o =
+    record {
+      setting = record { prime = o .prime; curve = curve-of e; nonzero = o .nonzero };
+      f-vec = o .is-cube .vec;
+      f-top = o .is-cube .top;
+      cube = o .is-cube .cube;
+    }
+
+-- the stages behind the form
+abbrev pub divisor-rest : (p : ℕ) → Curve (Z p) → List ℕ → List Stage
+divisor-rest p C s =
+    must 8 ((κ : Kind) → of-kind s κ → (i : ℕ) → i < count κ → number4 s (4 + 4 * i) < p)
+    ∷ must 9 ((κ : Kind) → of-kind s κ → IsBasis C κ (number-at p s))
+    ∷ []
+
+module _ (p : ℕ) (prime : Prime p) (s : List ℕ) (r : Divisor) (v : ValueOf s r) (form : Passes (divisor-form s)) where
+  abbrev κ : Kind
+  κ = form .1 .0 .0
+
+  is-kind : of-kind s κ
+  is-kind = form .1 .0 .1
+
+  long : length s ≡ size κ
+  long = form .1 .1 .0 κ is-kind
+
+  number-is : (i : ℕ) → i < count κ → getD (numbers r) i 0 ≡ number4 s (4 + 4 * i)
+  number-is i h = v .number i (omega (arith, count-small κ)) .is (omega (arith, long))
+
+  -- past the count the value is 0
+  number-past : (i : ℕ) → count κ ≤ i → getD (numbers r) i 0 ≡ 0
+  number-past i h = go (decLt i 9)
+    where
+      go : Dec (i < 9) → getD (numbers r) i 0 ≡ 0
+      go (yes l) = v .number i l .past (omega (arith, long))
+      go (no l) = List·getD-eq-default (numbers r) 0 {n = i} (omega arith)
+
+  all-below : ((i : ℕ) → i < count κ → number4 s (4 + 4 * i) < p) → (i : ℕ) → getD (numbers r) i 0 < p
+  all-below h i = go (decLt i (count κ))
+    where
+      go : Dec (i < count κ) → getD (numbers r) i 0 < p
+      go (yes l) = omega (arith, number-is i l, h i l)
+      go (no l) = omega (arith, number-past i (omega arith), prime .two-le)
+
+  bounds : AllBelow p (numbers r) → (i : ℕ) → i < count κ → number4 s (4 + 4 * i) < p
+  bounds h i l = omega (arith, number-is i l, below-at p (numbers r) h i (omega (arith, count-small κ)))
+
+  pub value-shaped : AllBelow p (numbers r) → Shaped p κ r
+  value-shaped h = record { kind = v .kind ∙ is-kind; below = all-below (bounds h) }
+
+  pub value-holds : AllBelow p (numbers r) → Holds p κ s r
+  value-holds h = record { shaped = value-shaped h; number = number-is }
+
+  module _ (C : Curve (Z p)) where
+    pub refused-8 : ¬ AllBelow p (numbers r) → FirstCause (divisor-stages p C s) 8
+    refused-8 n = inr (form .0, inr (form .1 .0, inr (form .1 .1 .0, inl (λ h. n (at-below p (numbers r) (λ i _. all-below (h κ is-kind) i)), refl))))
+
+    of-bounds : AllBelow p (numbers r) → (κ′ : Kind) → of-kind s κ′ → (i : ℕ) → i < count κ′ → number4 s (4 + 4 * i) < p
+    of-bounds h κ′ e = subst (λ (q : Kind). (i : ℕ) → i < count q → number4 s (4 + 4 * i) < p) (same-kind s κ κ′ is-kind e) (bounds h)
+
+    pub refused-9 : AllBelow p (numbers r) → ¬ IsBasis C κ (residues p r) → FirstCause (divisor-stages p C s) 9
+    refused-9 h n =
+        inr (
+          form .0,
+          inr (
+            form .1 .0,
+            inr (
+              form .1 .1 .0,
+              inr (of-bounds h, inl (λ b. n (read-based p C κ s r (value-holds h) (b κ is-kind) .basis), refl)),
+            ),
+          ),
+        )
+
+    pub given : AllBelow p (numbers r) → Bytes s → IsBasis C κ (residues p r) → DivisorGiven p C s r
+    given h y b =
+        record {
+          accepted = reads-accepted p C κ s reads;
+          kind = κ;
+          based = record { shaped = value-shaped h; basis = b };
+          bytes = read-back p C κ s r (value-holds h) y reads;
+        }
+      where
+        reads : Reads p C κ s
+        reads =
+            record {
+              kind = is-kind;
+              own = form .0 .1;
+              long = long;
+              below = bounds h;
+              basis = basis-same C (residues p r) (number-at p s) κ (λ i l. ap (el p) (number-is i l)) b;
+            }
+
+module _ (e : Equation) (f s : List ℕ) (r : Divisor) (o : OnCurve e f) (v : ValueOf s r) (form : Passes (divisor-form s)) (below : AllBelow (e .p) (numbers r)) where
+  shaped : Shaped (e .p) (form .1 .0 .0) r
+  shaped = value-shaped (e .p) (o .prime) s r v form below
+
+  pub basis-asked : BasisAsked (e .p) f r
+  basis-asked = record { ready = ready-of e f o; kind = form .1 .0 .0; shaped = shaped }
+
+  pub found-no-basis : (b : Bool) → BasisTest (e .p) f r b → b ≡ false → FirstCause (divisor-stages (e .p) (curve-of e) s) 9
+  found-no-basis b t n = refused-9 (e .p) (o .prime) s r v form (curve-of e) below (t .no-basis n (ready-of e f o) (form .1 .0 .0) shaped)
+
+  pub found-basis : (b : Bool) → BasisTest (e .p) f r b → b ≡ true → Bytes s → DivisorGiven (e .p) (curve-of e) s r
+  found-basis b t y h = given (e .p) (o .prime) s r v form (curve-of e) below h (t .yes-basis y (ready-of e f o) (form .1 .0 .0) shaped)
+
+module _ (p : ℕ) (C : Curve (Z p)) (s : List ℕ) where
+  pub next-short : length s < 4 → FirstCause (next-stages p C s) 6
+  next-short h = inl (λ g. omega arith, refl)
+
+  module _ (long : 4 ≤ length s) where
+    pub next-field : ¬ ((4 ≤ number2 s 0) × (number2 s 0 ≤ length s)) → FirstCause (next-stages p C s) 6
+    next-field n = inr (long, inl (n, refl))
+
+    module _ (n : ℕ) (own : n ≡ number2 s 0) (least : 4 ≤ n) (most : n ≤ length s) where
+      field : (4 ≤ number2 s 0) × (number2 s 0 ≤ length s)
+      field = (omega arith, omega arith)
+
+      next-refused : (k : ℕ) → FirstCause (divisor-stages p C (take n s)) k → FirstCause (next-stages p C s) k
+      next-refused k f = inr (long, inr (field, subst (λ (m : ℕ). FirstCause (divisor-stages p C (take m s)) k) own f))
+
+      next-given : (r : Divisor) → DivisorGiven p C (take n s) r → Passes (next-stages p C s) × (n ≡ number2 s 0) × DivisorGiven p C (take n s) r
+      next-given r g = ((long, (field, subst (λ (m : ℕ). Passes (divisor-stages p C (take m s))) own (g .accepted))), own, g)
+
+      pub next-is-given : (a : DivisorAnswer) (r : Divisor) → DivisorRead p C (take n s) a → a ≡ answer.Divisor r → NextRead p C s (next.Next r n)
+      next-is-given a r d e = next-given r (subst (λ (b : DivisorAnswer). DivisorRead p C (take n s) b) e d)
+
+      pub next-is-refused : (a : DivisorAnswer) (k : ℕ) → DivisorRead p C (take n s) a → a ≡ answer.Refused k → NextRead p C s (next.Refused k)
+      next-is-refused a k d e = next-refused k (subst (λ (b : DivisorAnswer). DivisorRead p C (take n s) b) e d)
