@@ -24,9 +24,9 @@ put-nothing s at =
 pub put-one : (s : List ℕ) (at b : ℕ) → at + 1 ≤ length s → Put s at (b ∷ []) (at + 1) (set s at b)
 put-one s at b h = record { next = refl; is = sets-eq (b ∷ []) s at h }
 
-module _ {s : List ℕ} {at : ℕ} {text : List ℕ} {m : ℕ} {s′ : List ℕ} (room : at + length text ≤ length s) (p : Put s at text m s′) where
+module _ {s : List ℕ} {at : ℕ} {text : List ℕ} {m : ℕ} {s′ : List ℕ} (room : m ≤ length s) (p : Put s at text m s′) where
   front : length (take at s ++ text) ≡ m
-  front = omega (arith, length-append (take at s) text, length-take-le at s (omega arith), p .next)
+  front = omega (arith, length-append (take at s) text, length-take-le at s (omega (arith, p .next)), p .next)
 
   pub put-length : length s′ ≡ length s
   put-length =
