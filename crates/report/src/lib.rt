@@ -1,0 +1,1 @@
+// What the counting program prints, put into a lent buffer.
