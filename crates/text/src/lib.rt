@@ -3,7 +3,7 @@ ghost use mathlib.Core.List.{[], _∷_};
 ghost use Prim.Native.Nat.{_+_, _≤_, _<_};
 ghost use lib.ListN.{length};
 ghost use Rattle.text.specs.Decimal.{digit, decimal, two-digits};
-ghost use Rattle.text.specs.Put.{Put};
+ghost use Rattle.text.specs.Put.{Put, Placed};
 
 // One byte.
 pub fn put_byte(out: &mut [u8], at: usize, b: u8) -> usize
@@ -46,14 +46,22 @@ pub fn put_two_digits(out: &mut [u8], at: usize, n: u32) -> usize
     put_digit(out, next, n % 10)
 }
 
-// A number in decimal digits.
-pub fn put_number(out: &mut [u8], at: usize, n: u32) -> usize
+// The digits of a number, all but the last by a call of itself.
+fn put_digits(out: &mut [u8], at: usize, n: u32) -> usize
     requires { do ⌜ at + length (decimal n) ≤ (← ⟦out.len()⟧) ⌝ }
     ensures { λ r. ⌜ Put (now (out .entry)) at (decimal n) r (now (out .exit)) ⌝ }
 {
     if n < 10 {
         return put_digit(out, at, n);
     }
-    let next = put_number(out, at, n / 10);
+    let next = put_digits(out, at, n / 10);
     put_digit(out, next, n % 10)
+}
+
+// A number in decimal digits, of which there are ten at most.
+pub fn put_number(out: &mut [u8], at: usize, n: u32) -> usize
+    requires { do ⌜ at + 10 ≤ (← ⟦out.len()⟧) ⌝ }
+    ensures { λ r. ⌜ Placed (now (out .entry)) at (decimal n) 10 r (now (out .exit)) ⌝ }
+{
+    put_digits(out, at, n)
 }
