@@ -2,14 +2,15 @@
 --   cause-small      a refusal's number is 1 to 11
 --   SumAnswer        the two cases of the answer: refused, or a record with the sum
 --   sum-answer       a list sum with room for 40 bytes has one of them
+--   SumGiven, sum-cause, sum-refused, sum-given    the same by the number that was returned
 --   sum-fits         the record of a list sum has 4 to 40 bytes
 --   report-cut       a list of over 32,768 bytes may be cut to 32,769
 use mathlib.Core.Path.{_≡_, refl, sym, ap, _∙_, subst}
 use mathlib.Core.Logic.{_⊎_, inl, inr}
 use mathlib.Core.List.{List, [], _∷_, _++_}
-use Prim.Native.Nat.{ℕ, suc, _+_, _≤_, _<_}
+use Prim.Native.Nat.{ℕ, zero, suc, _+_, _≤_, _<_}
 use native.Mathlib.Omega.{arith}
-use lib.ListN.{length, take, drop, length-drop}
+use lib.ListN.{length, take, drop, length-take, length-drop}
 use lib.Seq.{take-at, take-take, take-all, length-take-le}
 use native.Mathlib.Decide.{decLe}
 use lib.IntN.{ℤ, pos}
@@ -25,8 +26,10 @@ use Rattle.record.proofs.Cause.{passes-append, first-append}
 use Rattle.calls.specs.Answer.{minus, refused, written}
 use Rattle.calls.specs.Class.{IsListSum, zero-record}
 use Rattle.calls.specs.Call.{list-of, room, buffer, ListSum}
+use Rattle.calls.specs.Pool.{amount}
 use Rattle.calls.proofs.Answers.{record-fits}
 use Rattle.report.specs.Report.{ReportOn, Report, refused as refused-report, counted}
+use Rattle.report.specs.Contracts.{cause-of}
 
 -- the numbers from 1 to 11, and stages that refuse with no others
 abbrev Small : ℕ → Type 0
@@ -96,6 +99,46 @@ sum-answer c s out r out′ h (refused n f e q) = go (first-append (curve-stages
     go (inr (_, inr g)) = absurd (g .1)
 sum-answer c s out r out′ h (written w p (rs, l, k) e q) =
     given-sum rs w (passes-append (curve-stages c ++ list-of c s) (buffer out) .0 p .0) l k e (ap (take (length w)) q ∙ take-at w (drop (length w) out) (length w) refl)
+
+cause-minus : (n : ℕ) → cause-of (minus n) ≡ n
+cause-minus zero = refl
+cause-minus (suc n) = refl
+
+-- a list sum that was not refused: its record is the first m bytes of the buffer
+pub record SumGiven (c s : List ℕ) (m : ℕ) (out′ : List ℕ) : Type 0 where
+  pub records : List (List ℕ)
+  pub passes : Passes (curve-stages c ++ list-of c s)
+  pub listed : Listed (modulus c) (equation c) s records
+  pub sum : IsListSum c records (take m out′)
+  pub least : 4 ≤ m
+  pub most : m ≤ room
+  pub full : m ≡ length (take m out′)
+  pub inside : m ≤ length out′
+
+module _ {c s : List ℕ} {r : ℤ} {out′ : List ℕ} where
+  pub sum-cause : SumAnswer c s r out′ → cause-of r ≤ 11
+  sum-cause (refused-sum n f e) = omega (arith, ap cause-of e, cause-minus n, cause-small c s n f .1)
+  sum-cause (given-sum rs w p l k e q) = omega (arith, ap cause-of e)
+
+  pub sum-refused : SumAnswer c s r out′ → ¬ (cause-of r ≡ 0) → FirstCause (curve-stages c ++ list-of c s) (cause-of r)
+  sum-refused (refused-sum n f e) h = subst (FirstCause (curve-stages c ++ list-of c s)) (sym (ap cause-of e ∙ cause-minus n)) f
+  sum-refused (given-sum rs w p l k e q) h = absurd (h (ap cause-of e))
+
+  pub sum-given : SumAnswer c s r out′ → cause-of r ≡ 0 → (m : ℕ) → m ≡ amount r → SumGiven c s m out′
+  sum-given (refused-sum n f e) h m k = absurd (omega (arith, ap cause-of e, cause-minus n, cause-small c s n f .0))
+  sum-given (given-sum rs w p l sum e q) h m k =
+      let size : m ≡ length w = k ∙ ap amount e in
+      let is : take m out′ ≡ w = ap (λ (n : ℕ). take n out′) size ∙ q in
+      record {
+        records = rs;
+        passes = p;
+        listed = l;
+        sum = subst (IsListSum c rs) (sym is) sum;
+        least = omega (arith, size, sum-fits c rs w sum .0);
+        most = omega (arith, size, sum-fits c rs w sum .1);
+        full = size ∙ ap length (sym is);
+        inside = omega (arith, size, ap length is, length-take m out′);
+      }
 
 -- A list that is too long is refused with 11, whatever its bytes are.
 module _ (c s s′ : List ℕ) (h : list-limit < length s) (h′ : list-limit < length s′) where

@@ -1,8 +1,9 @@
 -- The counts of the kinds.
 --   tally-all        an accepted list has records of the five kinds only: the counts add up to all
 --   typicals-31      the typical records are those of kind 31
---   tallied          what a count call returns
-use mathlib.Core.Path.{_≡_, refl, sym, ap, _∙_}
+--   lines-counted    the report by the numbers that were counted
+--   counted-calls    what a count call returns
+use mathlib.Core.Path.{_≡_, refl, sym, ap, ap₂, _∙_}
 use mathlib.Core.List.{List, [], _∷_, _++_}
 use Prim.Native.Nat.{ℕ, _+_}
 use native.Mathlib.Omega.{arith}
@@ -22,8 +23,8 @@ use Rattle.calls.specs.Answer.{refused, answered}
 use Rattle.calls.specs.Pool.{amount}
 use Rattle.calls.specs.Call.{list-of, one-if, tally, Count}
 use Rattle.calls.proofs.Answers.{list-of-sound}
-use Rattle.report.specs.Report.{typicals}
-use Rattle.report.specs.Contracts.{Tallied}
+use Rattle.report.specs.Report.{typicals, count-lines, share-line, sum-line, lines}
+use Rattle.report.specs.Contracts.{Counted}
 
 -- a kind is one of the five
 one-kind : (κ : Kind) → one-if (eqb (code κ) 0) + one-if (eqb (code κ) 11) + one-if (eqb (code κ) 21) + one-if (eqb (code κ) 22) + one-if (eqb (code κ) 31) ≡ 1
@@ -46,7 +47,18 @@ pub typicals-31 : (rs : List (List ℕ)) → typicals rs ≡ tally 31 rs
 typicals-31 [] = refl
 typicals-31 (r ∷ rs) = ap (λ (n : ℕ). one-if (eqb (number2 r 2) 31) + n) (typicals-31 rs)
 
-pub tallied : (c s : List ℕ) (kind : ℕ) (r : ℤ) → Count c s kind r → Tallied c s kind (amount r)
-tallied c s kind r (refused n f e) p rs l = absurd (passes-refuses (curve-stages c ++ list-of c s) (list-of-sound c s) p n f)
-tallied c s kind r (answered q (ts, k, e)) p rs l =
+pub counted-calls : (c s : List ℕ) (kind : ℕ) (r : ℤ) → Count c s kind r → Counted c s kind (amount r)
+counted-calls c s kind r (refused n f e) p rs l = absurd (passes-refuses (curve-stages c ++ list-of c s) (list-of-sound c s) p n f)
+counted-calls c s kind r (answered q (ts, k, e)) p rs l =
     ap amount e ∙ ap (tally kind) (listed-once (modulus c) (equation c) s ts rs k l)
+
+-- the report by the numbers that were counted
+pub lines-counted : (p : ℕ) (C : Curve (Z p)) (rs : List (List ℕ)) (w : List ℕ) (n0 n11 n21 n22 n31 : ℕ) → AllAccepted p C rs
+    → n0 ≡ tally 0 rs → n11 ≡ tally 11 rs → n21 ≡ tally 21 rs → n22 ≡ tally 22 rs → n31 ≡ tally 31 rs
+    → count-lines n0 n11 n21 n22 n31 ++ share-line n31 (n0 + n11 + n21 + n22 + n31) ++ sum-line w ≡ lines rs w
+unfolding lines
+lines-counted p C rs w n0 n11 n21 n22 n31 a e0 e11 e21 e22 e31 =
+    let all : n0 + n11 + n21 + n22 + n31 ≡ length rs = omega (arith, tally-all p C rs a) in
+    let share : n31 ≡ typicals rs = e31 ∙ sym (typicals-31 rs) in
+    let first : count-lines n0 n11 n21 n22 n31 ≡ count-lines (tally 0 rs) (tally 11 rs) (tally 21 rs) (tally 22 rs) (tally 31 rs) = cc in
+    ap₂ (λ (x y : List ℕ). x ++ y ++ sum-line w) first (ap₂ share-line share all)

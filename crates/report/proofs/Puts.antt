@@ -1,17 +1,22 @@
 -- Lines as they are put piece by piece.
 --   share-none, share-some    the line of the share for no record, and for some
 --   share-small      a share is 10,000 hundredths at most
+--   parts-printed    the report on the parts of an input
 --   spaced-more      the numbers of a record behind spaces: one number more
-use mathlib.Core.Path.{_≡_, refl, sym, ap, _∙_}
+use mathlib.Core.Path.{_≡_, refl, sym, ap, _∙_, subst₂}
 use mathlib.Core.List.{List, [], _∷_, _++_, append-assoc, append-nil}
-use Prim.Native.Nat.{ℕ, zero, suc, _+_, _*_, _/_, _≤_, _<_}
+use Prim.Native.Nat.{ℕ, zero, suc, _+_, _*_, _/_, _≤_, _<_, min}
 use native.Mathlib.Nat.{div-lt-iff-lt-mul}
 use native.Mathlib.Numerals.{add-one}
+use native.Mathlib.Decide.{decLe}
 use native.Mathlib.Omega.{arith}
+use lib.ListN.{length, take, drop, drop-of-length-le}
+use lib.Seq.{take-all}
 use Rattle.text.specs.Ascii.{ascii}
 use Rattle.text.specs.Decimal.{decimal}
 use Rattle.layout.specs.Layout.{number4, numbers}
-use Rattle.report.specs.Report.{rounded, per-cent, share-line, spaced}
+use Rattle.report.specs.Report.{rounded, per-cent, share-line, spaced, curve-part, list-part}
+use Rattle.report.specs.Contracts.{PrintedOn, Printed}
 
 pub share-none : (t n : ℕ) → n ≡ 0 → share-line t n ≡ ascii "share none\n"
 unfolding share-line
@@ -47,3 +52,23 @@ spaced-more w i n e =
     ap (λ (k : ℕ). spaced (numbers w 4 k)) (add-one i)
     ∙ ap spaced (numbers-more w 4 i ∙ ap (λ (m : ℕ). numbers w 4 i ++ (m ∷ [])) (sym e))
     ∙ spaced-last (numbers w 4 i) n
+
+-- the parts of an input of n bytes end and start at the same place
+pub curve-same : (input : List ℕ) (size : ℕ) → size ≡ min (length input) 44 → take size input ≡ curve-part input
+curve-same input size e = go (decLe 44 (length input))
+  where
+    go : Dec (44 ≤ length input) → take size input ≡ take 44 input
+    go (yes h) = let whole : size ≡ 44 = omega arith in ap (λ (n : ℕ). take n input) whole
+    go (no h) = take-all size input (omega (arith, h)) ∙ sym (take-all 44 input (omega (arith, h)))
+
+pub list-same : (input : List ℕ) (size : ℕ) → size ≡ min (length input) 44 → drop size input ≡ list-part input
+list-same input size e = go (decLe 44 (length input))
+  where
+    go : Dec (44 ≤ length input) → drop size input ≡ drop 44 input
+    go (yes h) = let whole : size ≡ 44 = omega arith in ap (λ (n : ℕ). drop n input) whole
+    go (no h) = drop-of-length-le input {i = size} (omega (arith, h)) ∙ sym (drop-of-length-le input {i = 44} (omega (arith, h)))
+
+pub parts-printed : (input : List ℕ) (size : ℕ) (rest : List ℕ) {out : List ℕ} {r : ℕ} {out′ : List ℕ} → size ≡ min (length input) 44 → rest ≡ drop size input
+    → PrintedOn (take size input) rest out r out′ → Printed input out r out′
+parts-printed input size rest {out} {r} {out′} e k h =
+    subst₂ (λ (c s : List ℕ). PrintedOn c s out r out′) (curve-same input size e) (k ∙ list-same input size e) h

@@ -2,7 +2,7 @@
 // from place `at` on and returns the place behind it.
 ghost use mathlib.Core.Path.{_≡_};
 ghost use mathlib.Core.List.{_++_};
-ghost use Prim.Native.Nat.{_+_, _*_, _≤_, _<_};
+ghost use Prim.Native.Nat.{_+_, _*_, _≤_, _<_, min};
 ghost use lib.ListN.{length};
 ghost use Rattle.text.specs.Ascii.{ascii};
 ghost use Rattle.text.specs.Decimal.{decimal};
@@ -130,4 +130,14 @@ fn put_sum(out: &mut [u8], at: usize, w: &[u8]) -> usize
     let placed = text::put_number(out, named, kind);
     let numbered = put_numbers(out, placed, w, count);
     text::put_byte(out, numbered, b'\n')
+}
+
+// How many of n bytes are the curve: the first 44, or all, if fewer.
+fn curve_end(n: usize) -> usize
+    ensures { λ r. ⌜ r ≡ min n 44 ⌝ }
+{
+    if n < 44 {
+        return n;
+    }
+    44
 }
