@@ -10,7 +10,7 @@ ghost use Rattle.text.specs.Put.{Placed};
 ghost use Rattle.layout.specs.Layout.{numbers};
 ghost use Rattle.calls.specs.Pool.{amount};
 ghost use Rattle.report.specs.Report.{rounded, per-cent, share-line, count-line, count-lines, spaced, sum-line};
-ghost use Rattle.report.specs.Contracts.{cause-of};
+ghost use Rattle.report.specs.Contracts.{cause-of, Counted, AllPut, PrintedOn, Printed};
 
 // The number of the refusal that a call returned; 0 for none.
 fn cause(r: i32) -> u32
@@ -132,6 +132,46 @@ fn put_sum(out: &mut [u8], at: usize, w: &[u8]) -> usize
     text::put_byte(out, numbered, b'\n')
 }
 
+// How many records of an accepted list have the kind.
+fn counted(curve: &[u8], list: &[u8], kind: u32) -> u32
+    ensures { λ n. ⌜ Counted (now (curve .entry)) (now (list .entry)) kind n ⌝ }
+{
+    given(c34::c34_count(curve, list, kind))
+}
+
+// The lines of the kinds, of the share and of the sum w, for an accepted list.
+fn put_all(out: &mut [u8], curve: &[u8], list: &[u8], w: &[u8]) -> usize
+    requires { do ⌜ 256 ≤ (← ⟦out.len()⟧) ⌝ }
+    requires { do ⌜ 4 ≤ (← ⟦w.len()⟧) ⌝ }
+    requires { do ⌜ (← ⟦w.len()⟧) ≤ 40 ⌝ }
+    ensures { λ r. ⌜ AllPut (now (curve .entry)) (now (list .entry)) (now (w .entry)) (now (out .entry)) r (now (out .exit)) ⌝ }
+{
+    let n0 = counted(curve, list, 0);
+    let n11 = counted(curve, list, 11);
+    let n21 = counted(curve, list, 21);
+    let n22 = counted(curve, list, 22);
+    let n31 = counted(curve, list, 31);
+    let total = n0 as u64 + n11 as u64 + n21 as u64 + n22 as u64 + n31 as u64;
+    let after_counts = put_counts(out, 0, n0, n11, n21, n22, n31);
+    let after_share = put_share(out, after_counts, n31 as u64, total);
+    put_sum(out, after_share, w)
+}
+
+// All that is printed for a curve and a list.
+fn put_report(out: &mut [u8], curve: &[u8], list: &[u8]) -> usize
+    requires { do ⌜ 256 ≤ (← ⟦out.len()⟧) ⌝ }
+    ensures { λ r. ⌜ PrintedOn (now (curve .entry)) (now (list .entry)) (now (out .entry)) r (now (out .exit)) ⌝ }
+{
+    let mut sum = [0u8; 40];
+    let answer = c34::c34_list_sum(curve, list, &mut sum);
+    let n = cause(answer);
+    if n != 0 {
+        return put_line(out, 0, b"refused ", n);
+    }
+    let size = given(answer) as usize;
+    put_all(out, curve, list, &sum[..size])
+}
+
 // How many of n bytes are the curve: the first 44, or all, if fewer.
 fn curve_end(n: usize) -> usize
     ensures { λ r. ⌜ r ≡ min n 44 ⌝ }
@@ -140,4 +180,44 @@ fn curve_end(n: usize) -> usize
         return n;
     }
     44
+}
+
+// All that is printed for an input, put at the start of `out`; returns how many bytes that is.
+pub fn report(input: &[u8], out: &mut [u8]) -> usize
+    requires { do ⌜ 256 ≤ (← ⟦out.len()⟧) ⌝ }
+    ensures { λ r. ⌜ Printed (now (input .entry)) (now (out .entry)) r (now (out .exit)) ⌝ }
+{
+    let size = curve_end(input.len());
+    put_report(out, &input[..size], &input[size..])
+}
+
+// Prints the report on an input.
+pub fn print(input: &[u8]) {
+    let mut out = [0u8; 256];
+    let size = report(input, &mut out);
+    io::write_all(1, &out[..size]);
+}
+
+// Reads and drops some bytes of standard input; false at its end.
+fn skip_some() -> bool {
+    let mut buf = io::buffer();
+    let n = io::read_full(0, &mut buf);
+    n != 0
+}
+
+// Reads standard input to its end. A proved loop has to end, so the turns are counted down from a number that no run uses up.
+fn skip_rest() {
+    let mut turns = u64::MAX;
+    while turns > 0 && skip_some() {
+        turns -= 1;
+    }
+}
+
+// The counting program: prints the report on what standard input holds. Of a longer input the first 44 + 32,769 bytes say all
+// (proofs/Answers.antt, report-cut): its list is too long.
+pub fn run() {
+    let mut input = [0u8; 32813];
+    let n = io::read_full(0, &mut input);
+    skip_rest();
+    print(&input[..n]);
 }
