@@ -147,11 +147,12 @@ module _ (c s s′ : List ℕ) (h : list-limit < length s) (h′ : list-limit < 
   cut-cause n (inr f) = absurd (omega (arith, f .0))
 
   too-long : (text : List ℕ) → ReportOn c s′ text → ReportOn c s text
-  too-long text (refused-report n f e) = refused-report n (first-append (curve-stages c) (list-of c s) n .1 (go (first-append (curve-stages c) (list-of c s′) n .0 f))) e
+  too-long text (refused-report n f e) = refused-report n (go (first-append (curve-stages c) (list-of c s′) n .0 f)) e
     where
-      go : FirstCause (curve-stages c) n ⊎ (Passes (curve-stages c) × FirstCause (list-of c s′) n) → FirstCause (curve-stages c) n ⊎ (Passes (curve-stages c) × FirstCause (list-of c s) n)
-      go (inl g) = inl g
-      go (inr g) = inr (g .0, cut-cause n (g .1))
+      go : FirstCause (curve-stages c) n ⊎ (Passes (curve-stages c) × FirstCause (list-of c s′) n)
+          → FirstCause (curve-stages c ++ list-of c s) n
+      go (inl g) = first-append (curve-stages c) (list-of c s) n .1 (inl g)
+      go (inr g) = first-append (curve-stages c) (list-of c s) n .1 (inr (g .0, cut-cause n (g .1)))
   too-long text (counted rs w p l k e) = absurd (omega (arith, passes-append (curve-stages c) (list-of c s′) .0 p .1 .0))
 
 -- the bytes of the input that are read: a curve and one byte more than the longest list

@@ -26,17 +26,19 @@ use Rattle.calls.proofs.Answers.{list-of-sound}
 use Rattle.report.specs.Report.{typicals, count-lines, share-line, sum-line, lines}
 use Rattle.report.specs.Contracts.{Counted}
 
--- a kind is one of the five
-one-kind : (κ : Kind) → one-if (eqb (code κ) 0) + one-if (eqb (code κ) 11) + one-if (eqb (code κ) 21) + one-if (eqb (code κ) 22) + one-if (eqb (code κ) 31) ≡ 1
+-- how many of the five kinds have the number n
+abbrev kinds-of : ℕ → ℕ
+kinds-of n = one-if (eqb n 0) + one-if (eqb n 11) + one-if (eqb n 21) + one-if (eqb n 22) + one-if (eqb n 31)
+
+one-kind : (κ : Kind) → kinds-of (code κ) ≡ 1
 one-kind k0 = refl
 one-kind k11 = refl
 one-kind k21 = refl
 one-kind k22 = refl
 one-kind k31 = refl
 
-one-code : (n : ℕ) (κ : Kind) → n ≡ code κ
-    → one-if (eqb n 0) + one-if (eqb n 11) + one-if (eqb n 21) + one-if (eqb n 22) + one-if (eqb n 31) ≡ 1
-one-code n κ e = rw e (one-kind κ)
+one-code : (n : ℕ) (κ : Kind) → n ≡ code κ → kinds-of n ≡ 1
+one-code n κ e = ap kinds-of e ∙ one-kind κ
 
 pub tally-all : (p : ℕ) (C : Curve (Z p)) (rs : List (List ℕ)) → AllAccepted p C rs
     → tally 0 rs + tally 11 rs + tally 21 rs + tally 22 rs + tally 31 rs ≡ length rs

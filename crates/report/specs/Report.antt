@@ -58,7 +58,11 @@ count-line name n = name ++ decimal n ++ ascii "\n"
 -- "a line for each of the kinds 0, 11, 21, 22 and 31 in this order, the kind (0 printed as `zero`) and its count"
 unfoldable pub count-lines : (n0 n11 n21 n22 n31 : ℕ) → List ℕ
 count-lines n0 n11 n21 n22 n31 =
-    count-line (ascii "zero ") n0 ++ count-line (ascii "11 ") n11 ++ count-line (ascii "21 ") n21 ++ count-line (ascii "22 ") n22 ++ count-line (ascii "31 ") n31
+    count-line (ascii "zero ") n0
+    ++ count-line (ascii "11 ") n11
+    ++ count-line (ascii "21 ") n21
+    ++ count-line (ascii "22 ") n22
+    ++ count-line (ascii "31 ") n31
 
 -- each number behind a space
 unfoldable pub spaced : List ℕ → List ℕ

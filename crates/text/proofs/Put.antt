@@ -38,8 +38,12 @@ module _ {s : List ℕ} {at : ℕ} {text : List ℕ} {m : ℕ} {s′ : List ℕ}
       let rest : List ℕ = drop (at + length text) s in
       let before : take m s′ ≡ take at s ++ text = ap (take m) (p .is) ∙ take-at (take at s ++ text) rest m front in
       let far : at + length text + length more ≡ at + length (text ++ more) = omega (arith, length-append text more) in
+      let next-part : drop m s′ ≡ rest = ap (drop m) (p .is) ∙ drop-at (take at s ++ text) rest m front in
       let behind : drop (m + length more) s′ ≡ drop (at + length (text ++ more)) s =
-      sym (drop-drop (length more) m s′) ∙ ap (drop (length more)) (ap (drop m) (p .is) ∙ drop-at (take at s ++ text) rest m front) ∙ drop-drop (length more) (at + length text) s ∙ ap (λ (k : ℕ). drop k s) far in
+      sym (drop-drop (length more) m s′)
+      ∙ ap (drop (length more)) next-part
+      ∙ drop-drop (length more) (at + length text) s
+      ∙ ap (λ (k : ℕ). drop k s) far in
       record {
         next = q .next ∙ end;
         is = q .is ∙ rw (before, behind) (simp append-assoc);
