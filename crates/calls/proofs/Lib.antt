@@ -4,6 +4,7 @@ pub mod Together
 pub mod Class
 pub mod Multiples
 pub mod Answers
+pub mod Values
 pub mod Exists
 pub mod Determined
 pub mod Shut

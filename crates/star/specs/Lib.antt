@@ -1,2 +1,3 @@
--- The star of a triple: what it requires and ensures.
+-- The star of a triple: functionals, what star requires and ensures.
+pub mod Functional
 pub mod Contract

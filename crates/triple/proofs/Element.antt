@@ -6,9 +6,9 @@
 --   element-zero           a vector of zeros is zero
 --   element-pole, pole-element     the lead of the element is at m exactly if v is below m + 1 and v[m] is not 0
 --   present-monic          a member that is present is monic
-use mathlib.Core.Path.{_≡_, refl, sym, _∙_, ap, subst}
+use mathlib.Core.Path.{_≡_, sym, _∙_, ap, subst}
 use mathlib.Core.List.{List}
-use Prim.Native.Nat.{ℕ, zero, suc, _+_, _*_, _%_, _<_, _≤_}
+use Prim.Native.Nat.{ℕ, zero, suc, _<_}
 use native.Mathlib.Omega.{arith}
 use Rattle.algebra.specs.Ring.{CommRing, Field}
 use Rattle.algebra.proofs.Laws as L
@@ -18,7 +18,7 @@ use Rattle.field.specs.Field.{F}
 use Rattle.field.specs.Inverse.{lt-of-ne}
 use Rattle.ideal.specs.Poles.{IsPole, Poles, HasPole, Monic}
 use Rattle.ideal.proofs.Span.{InX, inx-constant, inx-x, inx-one}
-use Rattle.curve.specs.Curve.{Curve, Coordinate, x, y, constant}
+use Rattle.curve.specs.Curve.{Curve, x, y, constant}
 use Rattle.curve.specs.Monomial.{coefficient, power, monomial, mono}
 use Rattle.curve.specs.Filtration.{coefficient-below}
 use Rattle.curve.specs.Poles.{poles, below-constant}

@@ -1,19 +1,17 @@
 -- The loop of insert: v goes down to zero while the span of the triple and v stays.
 --   Inserting              the loop's invariant: v is below n
 --   insert-start, insert-asked, insert-more, insert-end
-use mathlib.Core.Path.{_≡_, refl, sym, _∙_, ap, subst}
+use mathlib.Core.Path.{_≡_, sym, subst}
 use mathlib.Core.Logic.{_⊎_, inl, inr}
-use mathlib.Core.List.{List, [], _∷_}
-use Prim.Native.Nat.{ℕ, zero, suc, _+_, _-_, _%_, _<_, _≤_}
+use mathlib.Core.List.{List, _∷_}
+use Prim.Native.Nat.{ℕ, zero, suc, _-_, _%_, _<_, _≤_}
 use native.Mathlib.Omega.{arith}
 use Rattle.algebra.specs.Ring.{CommRing}
-use Rattle.algebra.proofs.Laws as L
 use Rattle.prime.specs.Prime.{Prime}
 use Rattle.ideal.specs.Ideal.{SameIdeal}
-use Rattle.ideal.specs.Poles.{HasPole}
 use Rattle.ideal.proofs.Degree.{monic-pole}
 use Rattle.ideal.proofs.Every.{Every, every-map}
-use Rattle.ideal.proofs.Same.{same-trans, same-sym}
+use Rattle.ideal.proofs.Same.{same-trans}
 use Rattle.ideal.proofs.Span.{Span, span-each, span-first, span-nil, span-rest, span-same}
 use Rattle.vector.specs.Vector.{Vec, Top, at, row, element, width}
 use Rattle.triple.specs.Setting.{Setting, ring, poles-of}

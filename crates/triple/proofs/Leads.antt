@@ -15,13 +15,13 @@ use Rattle.algebra.specs.Ring.{CommRing}
 use Rattle.algebra.proofs.Laws as L
 use Rattle.ideal.specs.Poles.{IsPole, Poles, HasPole}
 use Rattle.ideal.proofs.Gaps.{pole-apart, pole-intro, pole-zero, pole-large}
-use Rattle.ideal.proofs.Degree.{degree, mono-has, monic-pole, pole-add, pole-at, pole-cong, pole-mul, pole-nonzero, pole-number, pole-unique}
+use Rattle.ideal.proofs.Degree.{degree, mono-has, monic-pole, pole-add, pole-cong, pole-mul, pole-nonzero, pole-number, pole-unique}
 use Rattle.ideal.proofs.Leads.{Lead, lowering}
 use Rattle.ideal.proofs.Span.{InX, inx-pole, Span, span-space, span-x, x-lead}
 use Rattle.vector.specs.Vector.{at, row, element, width}
 use Rattle.triple.specs.Setting as setting
 use Rattle.triple.specs.Setting.{Setting, poles-of}
-use Rattle.triple.specs.Triple.{Present, Absent, Member, Triple, Full, elements, Spanned}
+use Rattle.triple.specs.Triple.{Present, Absent, Triple, Full, elements, Spanned}
 use Rattle.triple.specs.Contract.{Whole}
 use Rattle.triple.proofs.Element.{element-zero, present-monic}
 use Rattle.triple.proofs.Members.{spanned-row}

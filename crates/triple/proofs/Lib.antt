@@ -6,6 +6,7 @@ pub mod Turns
 pub mod Insertion
 pub mod Reduction
 pub mod Products
+pub mod Ideals
 pub mod Filling
 pub mod Vectors
 pub mod Singular

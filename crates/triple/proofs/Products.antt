@@ -9,8 +9,8 @@
 --   multiply-start, multiply-asked, multiply-more, multiply-end
 use mathlib.Core.Path.{_≡_, refl, sym, _∙_, ap, subst}
 use mathlib.Core.Logic.{inr}
-use mathlib.Core.List.{List, [], _∷_, _++_, map}
-use Prim.Native.Nat.{ℕ, zero, suc, _+_, _*_, _-_, _%_, _<_, _≤_}
+use mathlib.Core.List.{List, [], _∷_, map}
+use Prim.Native.Nat.{ℕ, zero, suc, _+_, _<_, _≤_}
 use native.Mathlib.Omega.{arith}
 use native.Mathlib.Decide.{ℕ-discrete}
 use native.Mathlib.Numerals.{add-one}
@@ -23,12 +23,12 @@ use Rattle.ideal.proofs.Degree.{monic-pole, pole-mul}
 use Rattle.ideal.proofs.Every.{Every, every-map, every-append, every-image}
 use Rattle.ideal.proofs.Generated.{products, products-source}
 use Rattle.ideal.proofs.Same.{same-sym, same-trans}
-use Rattle.ideal.proofs.Span.{Span, span-each, span-first, span-nil, span-product, span-rest, span-same, span-within}
-use Rattle.vector.specs.Vector.{Vec, Top, at, row, element, width}
-use Rattle.vector.specs.Contract.{Rows, RowsOf, YMultiplesAsked, YMultiples, TimesAsked, Times}
+use Rattle.ideal.proofs.Span.{Span, span-each, span-first, span-product, span-rest, span-same}
+use Rattle.vector.specs.Vector.{Vec, at, row, element, width}
+use Rattle.vector.specs.Contract.{RowsOf, YMultiplesAsked, YMultiples, TimesAsked, Times}
 use Rattle.vector.proofs.Loop.{zeros-at}
 use Rattle.triple.specs.Setting.{Setting, ring, poles-of, Ready}
-use Rattle.triple.specs.Triple.{Member, Triple, Full, elements, Spanned}
+use Rattle.triple.specs.Triple.{Member, Triple, elements, Spanned}
 use Rattle.triple.specs.Contract.{InsertAsked, Inserted, ProductAsked, Multiplied, PutAsked, Put, listed}
 use Rattle.triple.proofs.Element.{element-zero, present-monic}
 use Rattle.triple.proofs.Members.{each-row, row-each}

@@ -5,13 +5,13 @@
 --   at-times-asked, at-reduce-asked        what closed_at asks of times_y and reduce
 --   at-yes, at-no, at-test y times a member leaves the rest 0 or not
 --   Closing, closed-start, closed-more, closed-stop, closed-end    the loop of closed
-use mathlib.Core.Path.{_≡_, refl, sym, _∙_, ap, ap₂, subst}
+use mathlib.Core.Path.{_≡_, sym, _∙_, ap, ap₂, subst}
 use mathlib.Core.Bool.{Bool, true, false, not}
-use mathlib.Core.List.{List, [], _∷_}
+use mathlib.Core.List.{List}
 use Prim.Native.Nat.{ℕ, zero, suc, _+_, _*_, _-_, _/_, _%_, _<_, _≤_}
 use native.Mathlib.Omega.{arith}
 use native.Mathlib.Decide.{ℕ-discrete, decLt}
-use lib.ListN.{length, List·getD-eq-default}
+use lib.ListN.{List·getD-eq-default}
 use borrow.Author.Tests.{not-true, not-false}
 use Rattle.algebra.specs.Ring.{CommRing}
 use Rattle.algebra.proofs.Laws as L

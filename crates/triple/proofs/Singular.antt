@@ -5,9 +5,9 @@
 --   inserted-keeps         … and the span before
 --   test                   what nonsingular returns
 use mathlib.Core.Path.{_≡_, refl, sym, _∙_, ap, subst}
-use mathlib.Core.Bool.{Bool, true, false}
+use mathlib.Core.Bool.{Bool}
 use mathlib.Core.List.{List, [], _∷_, _++_}
-use Prim.Native.Nat.{ℕ, zero, suc, _+_, _*_, _-_, _/_, _%_, _<_, _≤_}
+use Prim.Native.Nat.{ℕ, zero, suc, _+_, _*_, _-_, _/_, _%_, _<_}
 use native.Mathlib.Omega.{arith}
 use lib.ListN.{length}
 use Rattle.algebra.specs.Ring.{CommRing}
@@ -17,15 +17,14 @@ use Rattle.ideal.specs.Poles.{IsPole, Poles, HasPole}
 use Rattle.ideal.proofs.Gaps.{pole-apart}
 use Rattle.ideal.proofs.Degree.{mono-has, one-pole, pole-at, pole-cong, pole-mul, pole-number}
 use Rattle.ideal.proofs.Every.{Every, every-append, every-left, every-right}
-use Rattle.ideal.proofs.Generated.{generated-ideal, generated-first, generated-rest, generated-each}
+use Rattle.ideal.proofs.Generated.{generated-ideal, generated-first, generated-rest}
 use Rattle.ideal.proofs.Leads.{IsSpace, Lead, ideal-space, lowering}
-use Rattle.ideal.proofs.Span.{Span, four-pole, span-each, span-first, span-in, span-nil, span-rest, span-space, span-sum, span-within, span-x, x-lead}
+use Rattle.ideal.proofs.Span.{Span, four-pole, span-each, span-in, span-nil, span-space, span-sum, span-within, span-x, x-lead}
 use Rattle.curve.specs.Curve.{Curve, y}
 use Rattle.curve.specs.Monomial.{power}
-use Rattle.nonsingular.specs.Nonsingular.{Nonsingular}
 use Rattle.nonsingular.specs.Derivative.{derivative-x, derivative-y}
 use Rattle.nonsingular.proofs.Nonsingular.{nonsingular}
-use Rattle.vector.specs.Vector.{row, element, y-to}
+use Rattle.vector.specs.Vector.{element, y-to}
 use Rattle.vector.specs.Contract.{RowsOf, YMultiples}
 use Rattle.triple.specs.Setting as setting
 use Rattle.triple.specs.Setting.{Setting, poles-of}

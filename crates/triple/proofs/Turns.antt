@@ -4,10 +4,10 @@
 --   turn-none              v[m] is 0: nothing is done
 --   turn-clear             v less a multiple of the member of its class
 --   turn-swap, turn-fill   v takes the member's place; the old member less its multiple goes on, or there was none
-use mathlib.Core.Path.{_≡_, refl, sym, _∙_, ap, subst}
+use mathlib.Core.Path.{_≡_, refl, sym, _∙_, ap}
 use mathlib.Core.Logic.{_⊎_, inl, inr}
 use mathlib.Core.List.{List, [], _∷_}
-use Prim.Native.Nat.{ℕ, zero, suc, _+_, _*_, _-_, _/_, _%_, _<_, _≤_}
+use Prim.Native.Nat.{ℕ, zero, suc, _+_, _-_, _/_, _%_, _<_, _≤_}
 use native.Mathlib.Omega.{arith}
 use native.Mathlib.Decide.{ℕ-discrete}
 use lib.ListN.{length, set, length-set}
@@ -16,14 +16,14 @@ use Rattle.algebra.specs.Ring.{CommRing}
 use Rattle.ideal.specs.Ideal.{SameIdeal}
 use Rattle.ideal.proofs.Same.{same-trans}
 use Rattle.ideal.proofs.Span.{Span, inx-mul, span-times}
-use Rattle.vector.specs.Vector.{Vec, Top, at, row, element, width}
+use Rattle.vector.specs.Vector.{Top, at, row, element, width}
 use Rattle.vector.specs.Contract.{ClearAsked, Cleared, MonicAsked, MadeMonic}
 use Rattle.triple.specs.Setting.{Setting, ring, poles-of}
-use Rattle.triple.specs.Triple.{Present, Absent, Member, Triple, elements, Spanned}
+use Rattle.triple.specs.Triple.{Present, Absent, Member, Triple, elements}
 use Rattle.triple.specs.Contract.{TurnAsked, Turned, degrees}
 use Rattle.triple.proofs.Element.{constant-in, x-to-in}
 use Rattle.triple.proofs.Members.{span-shift, spanned-row, swap-same}
-use Rattle.triple.proofs.Leads.{present-of, degree-most}
+use Rattle.triple.proofs.Leads.{present-of}
 
 pub top-less : (v : List ℕ) {m : ℕ} → Top v (suc m) → at v m ≡ 0 → Top v m
 top-less v {m} t e i l = go (ℕ-discrete i m)

@@ -1,0 +1,2 @@
+-- What the parts of the calls require and ensure.
+pub mod Part

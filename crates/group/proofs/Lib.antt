@@ -1,0 +1,5 @@
+-- Laws of the functions on divisors by value.
+pub mod Divisor
+pub mod Stars
+pub mod Sums
+pub mod Copies

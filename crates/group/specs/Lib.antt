@@ -1,0 +1,2 @@
+-- Sums, negatives and multiples of divisors by value.
+pub mod Contract

@@ -1,0 +1,21 @@
+-- `star::value` meets its contract.
+use native.Mathlib.Omega.{arith}
+use borrow.Author.Needs.{needs}
+use Rattle.star.proofs.Pairing.{valued-shifted, valued-plain}
+use Rattle.star.proofs.value.Statement.{statement}
+use Rattle.star.proofs.value.Tie as tie
+
+dot-requires : tie.Need-dot-requires
+dot-requires c κs = search needs
+
+returns : tie.Need-returns
+returns c = valued-shifted (c .before .before .pre) (c .dot .ensures)
+
+dot-requires-2 : tie.Need-dot-requires-2
+dot-requires-2 c κs = search needs
+
+returns-2 : tie.Need-returns-2
+returns-2 c = valued-plain (c .before .before .pre) (omega arith) (c .dot2 .ensures)
+
+pub value-spec : {M : Type 1} → statement M
+value-spec = tie.close (tie.spec dot-requires returns dot-requires-2 returns-2)
