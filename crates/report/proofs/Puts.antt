@@ -1,7 +1,7 @@
 -- Lines as they are put piece by piece.
 --   share-none, share-some    the line of the share for no record, and for some
 --   share-small      a share is 10,000 hundredths at most
---   parts-printed    the report on the parts of an input
+--   curve-same, list-same, parts-printed    the parts of an input, and the report on them
 --   spaced-more      the numbers of a record behind spaces: one number more
 use mathlib.Core.Path.{_≡_, refl, sym, ap, _∙_, subst₂}
 use mathlib.Core.List.{List, [], _∷_, _++_, append-assoc, append-nil}

@@ -1,6 +1,7 @@
--- Signed answers of calls as unsigned numbers. z is the answer r as the program reads it.
---   refusal-amount, answer-amount, answer-fits     what r returned, by its sign
---   refusal-negated, refusal-fits, refusal-cause, answer-cause    the number of a refusal, by its sign
+-- Signed answers of calls as unsigned numbers.
+--   refused-amount   a negative answer gives no number
+--   given-amount     any other gives the number itself, which fits, and no refusal
+--   refused-cause    the negative of a refusal's answer is its number, which fits
 use mathlib.Core.Path.{_≡_, refl, sym, ap, _∙_, subst}
 use mathlib.Core.Bool.{true, false}
 use Prim.Native.Nat.{ℕ, suc, _<_, _≤_, _^_}

@@ -1,7 +1,7 @@
 -- What the functions of the counting program ensure.
 --   cause-of r           the number of the refusal that a call returned; 0 for none
 --   Counted c s kind n   n is how many records of the list have the kind, if the curve and the list are accepted
---   AllPut c s w out r out′    if they are and w is the record of the sum, the lines of the report have been put at the start of the buffer
+--   AllPut c s w out r out′    if they are, the lines of the report with the sum w have been put at the start of the buffer
 --   longest              the most bytes that are printed
 --   PrintedOn c s out r out′   the buffer out has become out′: what is printed for the curve c and the list s stands at its start, in r bytes
 --   Printed input out r out′   … for the input
