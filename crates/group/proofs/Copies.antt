@@ -11,18 +11,18 @@
 --   held-double            b is doubled
 --   held-end               at the end, with n = 0, r stands for m copies
 use mathlib.Core.Path.{_≡_, sym, _∙_, ap, subst}
-use mathlib.Core.List.{List, [], _∷_}
+use mathlib.Core.List.{List}
 use Prim.Native.Nat.{ℕ, zero, suc, _+_, _*_, _/_, _%_}
 use native.Mathlib.Omega.{arith}
 use lib.ListN.{replicate, replicate-append-replicate}
 use Rattle.algebra.specs.Ring.{CommRing}
-use Rattle.ideal.specs.Ideal.{IsIdeal, Product, ProductOf, Equivalent}
+use Rattle.ideal.specs.Ideal.{IsIdeal, ProductOf, Equivalent}
 use Rattle.ideal.proofs.Every.{Every}
 use Rattle.ideal.proofs.Class.{equivalent-same, equivalent-sym, equivalent-trans}
 use Rattle.ideal.proofs.Product.{productof-one, productof-join}
 use Rattle.triple.specs.Setting.{Setting, ring, poles-of}
 use Rattle.basis.specs.declared.Divisor.{Divisor}
-use Rattle.group.specs.Contract.{Ground, IsDivisor, ideal, SumAsked, SumOf, copies, IsMultiple, ZeroClass}
+use Rattle.group.specs.Contract.{Ground, IsDivisor, ideal, SumAsked, SumOf, IsMultiple, ZeroClass}
 use Rattle.group.proofs.Divisor.{divisor-footprint, kind-zero, zero-divisor}
 use Rattle.group.proofs.Sums.{sum-equivalent}
 

@@ -15,7 +15,7 @@ use Rattle.field.specs.Field.{F, prime-large}
 use Rattle.ideal.specs.Ideal.{IsIdeal, SameIdeal}
 use Rattle.ideal.proofs.Reduced.{SmallFootprint}
 use Rattle.ideal.proofs.Finite.{BasedIdeal}
-use Rattle.divisor.specs.Kind.{Kind, k0, IdealOf}
+use Rattle.divisor.specs.Kind.{k0, IdealOf}
 use Rattle.divisor.proofs.Basis.{basis-footprint, basis-based}
 use Rattle.divisor.proofs.Class.{zero-basis, zero-whole}
 use Rattle.vector.specs.Vector.{at}

@@ -6,10 +6,10 @@
 --   product-star-asked     the span of their product is an ideal with a lead of at most 12
 --   product-star-of        … so the star of that triple is the star of the product
 use mathlib.Core.List.{List}
-use Prim.Native.Nat.{ℕ, _<_, _≤_}
+use Prim.Native.Nat.{ℕ, _≤_}
 use native.Mathlib.Omega.{arith}
 use Rattle.algebra.specs.Ring.{CommRing}
-use Rattle.ideal.specs.Ideal.{IsIdeal, SameIdeal, Product}
+use Rattle.ideal.specs.Ideal.{SameIdeal, Product}
 use Rattle.ideal.specs.Poles.{Poles}
 use Rattle.ideal.specs.Reduced.{IsStar}
 use Rattle.ideal.proofs.Same.{same-sym, same-trans, ideal-same}

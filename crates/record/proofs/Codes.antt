@@ -4,15 +4,15 @@
 --   count-small, size-least, size-most    at most 9 numbers; 4 to 40 bytes
 --   polynomials-same, ideal-same, basis-same    numbers that agree below the count give the same polynomials, ideal and basis
 use mathlib.Core.Path.{_≡_, refl, sym, ap, _∙_, subst}
-use mathlib.Core.Logic.{_↔_, ite}
-use mathlib.Core.List.{List, [], _∷_}
-use Prim.Native.Nat.{ℕ, _+_, _*_, _<_, _≤_}
+use mathlib.Core.Logic.{ite}
+use mathlib.Core.List.{List}
+use Prim.Native.Nat.{ℕ, _<_, _≤_}
 use native.Mathlib.Decide.{ℕ-discrete}
 use native.Mathlib.Omega.{arith}
 use Rattle.algebra.specs.Ring.{CommRing}
 use Rattle.ideal.specs.Ideal.{SameIdeal, Generated}
 use Rattle.curve.specs.Curve.{Curve, Coordinate}
-use Rattle.divisor.specs.Kind.{Kind, k0, k11, k21, k22, k31, code, count, size, polynomials, IdealOf, IsBasis, MadeOf, remaining}
+use Rattle.divisor.specs.Kind.{Kind, k0, k11, k21, k22, k31, code, count, size, polynomials, IdealOf, IsBasis}
 
 abbrev pub kind-of : ℕ → Kind
 kind-of n = ite (ℕ-discrete n 11) k11 (ite (ℕ-discrete n 21) k21 (ite (ℕ-discrete n 22) k22 (ite (ℕ-discrete n 31) k31 k0)))
@@ -55,7 +55,16 @@ module _ {k : CommRing} (C : Curve k) (n n′ : ℕ → k .Car) where
   polynomials-same k21 h = cc (h 0 (omega arith), h 1 (omega arith), h 2 (omega arith), h 3 (omega arith))
   polynomials-same k22 h = cc (h 0 (omega arith), h 1 (omega arith), h 2 (omega arith))
   polynomials-same k31 h =
-      cc (h 0 (omega arith), h 1 (omega arith), h 2 (omega arith), h 3 (omega arith), h 4 (omega arith), h 5 (omega arith), h 6 (omega arith), h 7 (omega arith), h 8 (omega arith))
+      let e0 = h 0 (omega arith) in
+      let e1 = h 1 (omega arith) in
+      let e2 = h 2 (omega arith) in
+      let e3 = h 3 (omega arith) in
+      let e4 = h 4 (omega arith) in
+      let e5 = h 5 (omega arith) in
+      let e6 = h 6 (omega arith) in
+      let e7 = h 7 (omega arith) in
+      let e8 = h 8 (omega arith) in
+      cc
 
   pub ideal-same : (κ : Kind) → ((i : ℕ) → i < count κ → n i ≡ n′ i) → SameIdeal (Coordinate C) (IdealOf C κ n) (IdealOf C κ n′)
   ideal-same κ h g =

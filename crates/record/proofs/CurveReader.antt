@@ -6,7 +6,7 @@
 --   equation-checked   the stages of the equation by value are those of the bytes
 --   on-curve, divisor-on, next-on    the readers of divisors on the curve of the bytes
 use mathlib.Core.Path.{_≡_, refl, sym, ap, _∙_, subst}
-use mathlib.Core.Logic.{_⊎_, inl, inr, _↔_}
+use mathlib.Core.Logic.{inl, inr, _↔_}
 use mathlib.Core.List.{List, [], _∷_}
 use Prim.Native.Nat.{ℕ, _<_, _≤_}
 use native.Mathlib.Omega.{arith}
@@ -17,7 +17,7 @@ use Rattle.field.specs.Element.{el-one}
 use Rattle.field.specs.Field.{one-not-zero}
 use Rattle.curve.specs.Curve.{Curve}
 use Rattle.nonsingular.specs.Nonsingular.{Nonsingular}
-use Rattle.triple.specs.Equation.{curve-of, Coefficients, IsCube, TestAsked}
+use Rattle.triple.specs.Equation.{curve-of, Coefficients, IsCube}
 use Rattle.triple.specs.declared.equation.Equation.{Equation}
 use Rattle.record.specs.declared.DivisorAnswer.{DivisorAnswer}
 use Rattle.record.specs.declared.NextAnswer.{NextAnswer}

@@ -5,9 +5,9 @@
 --   refused-8, refused-9, given    a number that is not below p; no basis; an accepted divisor
 --   basis-asked, found-no-basis, found-basis    the same by the test of basis
 --   next-short, next-field, next-is-given, next-is-refused    the record at the start of a list's bytes
-use mathlib.Core.Path.{_≡_, refl, sym, ap, _∙_, subst}
+use mathlib.Core.Path.{_≡_, refl, ap, _∙_, subst}
 use mathlib.Core.Bool.{Bool, true, false}
-use mathlib.Core.Logic.{_⊎_, inl, inr}
+use mathlib.Core.Logic.{inl, inr}
 use mathlib.Core.List.{List, [], _∷_}
 use Prim.Native.Nat.{ℕ, _+_, _*_, _<_, _≤_}
 use native.Mathlib.Omega.{arith}
@@ -17,12 +17,12 @@ use Rattle.algebra.specs.Ring.{CommRing}
 use Rattle.prime.specs.Prime.{Prime}
 use Rattle.field.specs.Residue.{Z, el}
 use Rattle.curve.specs.Curve.{Curve}
-use Rattle.divisor.specs.Kind.{Kind, code, count, size, IsBasis}
+use Rattle.divisor.specs.Kind.{Kind, count, size, IsBasis}
 use Rattle.layout.specs.Layout.{Bytes, number2, number4}
 use Rattle.triple.specs.Setting.{Ready}
 use Rattle.triple.specs.Equation.{curve-of}
 use Rattle.triple.specs.declared.equation.Equation.{Equation}
-use Rattle.basis.specs.Divisor.{numbers, residues, Shaped, Based}
+use Rattle.basis.specs.Divisor.{numbers, residues, Shaped}
 use Rattle.basis.specs.declared.Divisor.{Divisor}
 use Rattle.basis.specs.Contract.{BasisAsked, BasisTest}
 use Rattle.record.specs.Cause.{Stage, must, FirstCause, Passes}

@@ -9,3 +9,4 @@ pub mod Suffices
 pub mod Answer
 pub mod DivisorReader
 pub mod CurveReader
+pub mod ListReader

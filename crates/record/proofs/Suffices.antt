@@ -6,10 +6,10 @@
 --   record-with            every based ideal with all leads from 6 on has one record
 --   record-reduced         every based ideal with a nonzero element has one record of its reduced ideal
 --   record-length-suffices the demand
-use mathlib.Core.Path.{_≡_, sym, ap, _∙_}
-use mathlib.Core.Logic.{_↔_, Iff·trans, Iff·symm}
-use mathlib.Core.List.{List, [], _∷_}
-use Prim.Native.Nat.{ℕ, _+_, _*_, _<_, _≤_}
+use mathlib.Core.Path.{_≡_}
+use mathlib.Core.Logic.{Iff·trans, Iff·symm}
+use mathlib.Core.List.{List}
+use Prim.Native.Nat.{ℕ, _<_, _≤_}
 use native.Mathlib.Omega.{arith}
 use lib.ListN.{length}
 use Rattle.algebra.specs.Ring.{CommRing, Field}
@@ -23,12 +23,12 @@ use Rattle.ideal.proofs.Finite.{BasedIdeal}
 use Rattle.ideal.proofs.Generated.{generated-ideal}
 use Rattle.ideal.proofs.Reduced.{SmallFootprint, reduced-unique}
 use Rattle.ideal.specs.Ideal.{IsIdeal}
-use Rattle.curve.specs.Curve.{Curve, Coordinate}
+use Rattle.curve.specs.Curve.{Coordinate}
 use Rattle.divisor.specs.Kind.{Kind, size, IdealOf, IsBasis}
 use Rattle.divisor.proofs.Exists.{RecordOf, record-exists, record-of, record-suffices}
 use Rattle.layout.specs.Layout.{Bytes}
 use Rattle.triple.specs.Setting.{Setting, ring, poles-of}
-use Rattle.record.specs.Curve.{limit, modulus, equation, AcceptedCurve, setting-of}
+use Rattle.record.specs.Curve.{limit, equation, AcceptedCurve, setting-of}
 use Rattle.record.specs.Divisor.{AcceptedDivisor, IdealOfBytes}
 use Rattle.record.proofs.Codes.{size-least, size-most}
 use Rattle.record.proofs.Accepted.{reads-accepted}
@@ -55,14 +55,17 @@ module _ {p : ℕ} (S : Setting p) where
   module _ (fits : p ≤ limit) where
     -- the record of a basis, with what makes it the only one
     the-record : (G : List ℕ → Type 0) (κ : Kind) (n : ℕ → Z p .Car) → IsBasis (S .curve) κ n
-        → (Bytes (residue-record p κ n) → AcceptedDivisor p (S .curve) (residue-record p κ n) → SameIdeal (ring S) (IdealOf (S .curve) κ n) (IdealOfBytes p (S .curve) (residue-record p κ n)) → G (residue-record p κ n))
-        → ((w : List ℕ) → G w → Bytes w × AcceptedDivisor p (S .curve) w × SameIdeal (ring S) (IdealOfBytes p (S .curve) w) (IdealOf (S .curve) κ n))
+        → (RecordWith (IdealOf (S .curve) κ n) (residue-record p κ n) → G (residue-record p κ n))
+        → ((w : List ℕ) → G w → RecordWith (IdealOf (S .curve) κ n) w)
         → OneRecord G
     the-record G κ n b make back =
         record {
           bytes = residue-record p κ n;
-          has = make bytes accepted ideal;
-          only = λ w g. accepted-unique S w (residue-record p κ n) (back w g .0) bytes (back w g .1) accepted (λ h. Iff·trans (back w g .2 h) (ideal h));
+          has = make (record { bytes = bytes; accepted = accepted; same = ideal });
+          only =
+              λ w g.
+              let r = back w g in
+              accepted-unique S w (residue-record p κ n) (r .bytes) bytes (r .accepted) accepted (λ h. Iff·trans (Iff·symm (r .same h)) (ideal h));
           shortest = omega (arith, long, size-least κ);
           longest = omega (arith, long, size-most κ);
         }
@@ -91,19 +94,19 @@ module _ {p : ℕ} (S : Setting p) where
         go : (κ : Kind) × (n : ℕ → Z p .Car) × IsBasis (S .curve) κ n × SameIdeal (ring S) I (IdealOf (S .curve) κ n) → OneRecord (RecordWith I)
         go (κ, n, b, e) =
             the-record (RecordWith I) κ n b
-            (λ y a i. record { bytes = y; accepted = a; same = λ g. Iff·trans (e g) (i g) })
-            (λ w r. (r .bytes, r .accepted, λ g. Iff·trans (Iff·symm (r .same g)) (e g)))
+            (λ r. record { bytes = r .bytes; accepted = r .accepted; same = λ g. Iff·trans (e g) (r .same g) })
+            (λ w r. record { bytes = r .bytes; accepted = r .accepted; same = λ g. Iff·trans (Iff·symm (e g)) (r .same g) })
 
     from-record : {J : ring S .Car → Type 0} → IsIdeal (ring S) J → RecordOf (F p (S .prime)) (S .curve) (S .nonzero) J → OneRecord (ReducedRecord J)
     from-record {J} i r =
         the-record (ReducedRecord J) (r .kind) (r .numbers) (r .basis)
-        (λ y a e.
+        (λ t.
         record {
-          bytes = y;
-          accepted = a;
-          reduced = record { f = d .f; least = d .least; f′ = d .f′; least′ = d .least′; same = λ g. Iff·trans (Iff·symm (e g)) (d .same g) };
+          bytes = t .bytes;
+          accepted = t .accepted;
+          reduced = record { f = d .f; least = d .least; f′ = d .f′; least′ = d .least′; same = λ g. Iff·trans (Iff·symm (t .same g)) (d .same g) };
         })
-        (λ w t. (t .bytes, t .accepted, reduced-unique (poles-of S) i (t .reduced) d))
+        (λ w t. record { bytes = t .bytes; accepted = t .accepted; same = reduced-unique (poles-of S) i d (t .reduced) })
       where
         d : IsReduced (poles-of S) J (IdealOf (S .curve) (r .kind) (r .numbers))
         d = r .reduced

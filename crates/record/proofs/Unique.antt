@@ -3,8 +3,8 @@
 --   upto c f           the list f 0, …, f (c − 1)
 --   residue-record κ n the record of kind κ whose numbers are those of the residues n
 --   residue-record-bytes, residue-record-length, residue-record-reads, residue-record-ideal    it is bytes, of the kind's length, accepted, with their ideal
-use mathlib.Core.Path.{_≡_, refl, sym, ap, ap₂, _∙_, subst}
-use mathlib.Core.Logic.{_↔_, Iff·trans, Iff·symm}
+use mathlib.Core.Path.{_≡_, refl, sym, ap, _∙_, subst}
+use mathlib.Core.Logic.{Iff·trans, Iff·symm}
 use mathlib.Core.List.{List, [], _∷_}
 use Prim.Native.Nat.{ℕ, zero, suc, _+_, _*_, _<_, _≤_}
 use native.Mathlib.Omega.{arith}

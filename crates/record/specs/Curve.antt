@@ -5,7 +5,7 @@
 --   AcceptedCurve s    all of it holds
 --   setting-of         the prime and the curve of an accepted record
 --   limit              the largest modulus, 2147483647
-use mathlib.Core.Path.{_≡_, _∙_}
+use mathlib.Core.Path.{_≡_}
 use mathlib.Core.List.{List, [], _∷_}
 use Prim.Native.Nat.{ℕ, _+_, _*_, _<_, _≤_}
 use lib.ListN.{length}

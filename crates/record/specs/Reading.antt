@@ -15,7 +15,6 @@ use Rattle.field.specs.Residue.{Z}
 use Rattle.curve.specs.Curve.{Curve}
 use Rattle.divisor.specs.Kind.{Kind}
 use Rattle.layout.specs.Layout.{number2}
-use Rattle.triple.specs.Setting.{Ready}
 use Rattle.triple.specs.Equation.{curve-of, IsCube}
 use Rattle.triple.specs.declared.equation.Equation.{Equation}
 use Rattle.basis.specs.Divisor.{Based}

@@ -9,17 +9,19 @@ ghost use Rattle.record.specs.Contract.{Answers, Checked, Sized, Known, 
 ghost use Rattle.record.specs.Reading.{OnCurve, equation-value, CurveRead, DivisorRead, NextRead};
 ghost use Rattle.triple.specs.Equation.{curve-of};
 
+// An accepted curve, or the number of the first cause of refusal.
 pub enum CurveAnswer {
     Curve(Equation),
     Refused(u32),
 }
 
+// An accepted divisor, or the number of the first cause of refusal.
 pub enum DivisorAnswer {
     Divisor(Divisor),
     Refused(u32),
 }
 
-// A divisor and the length of its record.
+// An accepted divisor and the length of its record, or the number of the first cause of refusal.
 pub enum NextAnswer {
     Next(Divisor, usize),
     Refused(u32),
@@ -39,6 +41,22 @@ fn sized(s: &[u8]) -> bool
     false
 }
 
+// Are the three numbers below p?
+fn three_below(p: u32, a: u32, b: u32, c: u32) -> bool
+    ensures { λ r. ⌜ Answers (AllBelow p (a ∷ b ∷ c ∷ [])) r ⌝ }
+{
+    if p <= a {
+        return false;
+    }
+    if p <= b {
+        return false;
+    }
+    if p <= c {
+        return false;
+    }
+    true
+}
+
 // The refusal of a curve for its size, its kind or its kind's length; 0 for none.
 fn curve_form(s: &[u8]) -> u32
     ensures { λ r. ⌜ Checked (curve-form (now (s .entry))) r ⌝ }
@@ -54,6 +72,76 @@ fn curve_form(s: &[u8]) -> u32
         return 1;
     }
     0
+}
+
+// The equation of a curve's bytes.
+fn equation(s: &[u8]) -> Equation
+    requires { do ⌜ (← ⟦s.len()⟧) ≡ 44 ⌝ }
+    ensures { λ r. ⌜ r ≡ equation-value (now (s .entry)) ⌝ }
+{
+    Equation {
+        p: layout::read_u32(s, 4),
+        a0: 1,
+        c0: layout::read_u32(s, 8),
+        c1: layout::read_u32(s, 12),
+        c2: layout::read_u32(s, 16),
+        c3: layout::read_u32(s, 20),
+        c4: layout::read_u32(s, 24),
+        c5: layout::read_u32(s, 28),
+        c6: layout::read_u32(s, 32),
+        c7: layout::read_u32(s, 36),
+        c8: layout::read_u32(s, 40),
+    }
+}
+
+// Are all coefficients below p?
+fn coefficients_below(e: Equation) -> bool
+    ensures { λ b. ⌜ Answers (AllBelow (e .p) (coefficients e)) b ⌝ }
+{
+    if !three_below(e.p, e.c0, e.c1, e.c2) {
+        return false;
+    }
+    if !three_below(e.p, e.c3, e.c4, e.c5) {
+        return false;
+    }
+    three_below(e.p, e.c6, e.c7, e.c8)
+}
+
+// The refusal of a curve for its modulus, a coefficient or a singular point; 0 for none.
+fn equation_cause(e: Equation) -> u32
+    requires { ⌜ e .a0 ≡ 1 ⌝ }
+    ensures { λ r. ⌜ Checked (equation-stages e) r ⌝ }
+{
+    if 2147483647 < e.p {
+        return 3;
+    }
+    if !prime::is_prime(e.p) {
+        return 3;
+    }
+    if !coefficients_below(e) {
+        return 4;
+    }
+    let f = triple::equation::cube(e);
+    if !triple::equation::nonsingular(e, &f) {
+        return 5;
+    }
+    0
+}
+
+// A curve: accepted or refused.
+pub fn read_curve(s: &[u8]) -> CurveAnswer
+    ensures { λ r. ⌜ CurveRead (now (s .entry)) r ⌝ }
+{
+    let form = curve_form(s);
+    if form != 0 {
+        return CurveAnswer::Refused(form);
+    }
+    let e = equation(s);
+    let cause = equation_cause(e);
+    if cause != 0 {
+        return CurveAnswer::Refused(cause);
+    }
+    CurveAnswer::Curve(e)
 }
 
 // Is this the number of a divisor kind?
@@ -145,22 +233,6 @@ fn value(s: &[u8]) -> Divisor
     }
 }
 
-// Are the three numbers below p?
-fn three_below(p: u32, a: u32, b: u32, c: u32) -> bool
-    ensures { λ r. ⌜ Answers (AllBelow p (a ∷ b ∷ c ∷ [])) r ⌝ }
-{
-    if p <= a {
-        return false;
-    }
-    if p <= b {
-        return false;
-    }
-    if p <= c {
-        return false;
-    }
-    true
-}
-
 // Are all numbers of a divisor below p?
 fn all_below(p: u32, r: Divisor) -> bool
     ensures { λ b. ⌜ Answers (AllBelow p (numbers r)) b ⌝ }
@@ -213,76 +285,6 @@ pub fn read_next(e: Equation, f: &[u32; 26], s: &[u8]) -> NextAnswer
         DivisorAnswer::Divisor(r) => NextAnswer::Next(r, n),
         DivisorAnswer::Refused(cause) => NextAnswer::Refused(cause),
     }
-}
-
-// The equation of a curve's bytes.
-fn equation(s: &[u8]) -> Equation
-    requires { do ⌜ (← ⟦s.len()⟧) ≡ 44 ⌝ }
-    ensures { λ r. ⌜ r ≡ equation-value (now (s .entry)) ⌝ }
-{
-    Equation {
-        p: layout::read_u32(s, 4),
-        a0: 1,
-        c0: layout::read_u32(s, 8),
-        c1: layout::read_u32(s, 12),
-        c2: layout::read_u32(s, 16),
-        c3: layout::read_u32(s, 20),
-        c4: layout::read_u32(s, 24),
-        c5: layout::read_u32(s, 28),
-        c6: layout::read_u32(s, 32),
-        c7: layout::read_u32(s, 36),
-        c8: layout::read_u32(s, 40),
-    }
-}
-
-// Are all coefficients below p?
-fn coefficients_below(e: Equation) -> bool
-    ensures { λ b. ⌜ Answers (AllBelow (e .p) (coefficients e)) b ⌝ }
-{
-    if !three_below(e.p, e.c0, e.c1, e.c2) {
-        return false;
-    }
-    if !three_below(e.p, e.c3, e.c4, e.c5) {
-        return false;
-    }
-    three_below(e.p, e.c6, e.c7, e.c8)
-}
-
-// The refusal of a curve for its modulus, a coefficient or a singular point; 0 for none.
-fn equation_cause(e: Equation) -> u32
-    requires { ⌜ e .a0 ≡ 1 ⌝ }
-    ensures { λ r. ⌜ Checked (equation-stages e) r ⌝ }
-{
-    if 2147483647 < e.p {
-        return 3;
-    }
-    if !prime::is_prime(e.p) {
-        return 3;
-    }
-    if !coefficients_below(e) {
-        return 4;
-    }
-    let f = triple::equation::cube(e);
-    if !triple::equation::nonsingular(e, &f) {
-        return 5;
-    }
-    0
-}
-
-// A curve: accepted or refused.
-pub fn read_curve(s: &[u8]) -> CurveAnswer
-    ensures { λ r. ⌜ CurveRead (now (s .entry)) r ⌝ }
-{
-    let form = curve_form(s);
-    if form != 0 {
-        return CurveAnswer::Refused(form);
-    }
-    let e = equation(s);
-    let cause = equation_cause(e);
-    if cause != 0 {
-        return CurveAnswer::Refused(cause);
-    }
-    CurveAnswer::Curve(e)
 }
 
 // Writes the record of a divisor at the start of `out`, and returns its length.

@@ -4,8 +4,8 @@
 --   apply-top                  lam c times the coefficient at c, at what has no monomial above c
 --   apply-same                 functionals that agree where g has a coefficient
 --   apply-more                 one more value lam m adds lam m times the coefficient at m
-use mathlib.Core.Path.{_≡_, refl, sym, _∙_, ap, ap₂}
-use Prim.Native.Nat.{ℕ, zero, suc, _+_, _-_, _<_, _≤_}
+use mathlib.Core.Path.{_≡_, refl, sym, _∙_, ap}
+use Prim.Native.Nat.{ℕ, zero, suc, _<_}
 use native.Mathlib.Omega.{arith}
 use native.Mathlib.Decide.{ℕ-discrete, decLt}
 use Rattle.algebra.specs.Ring.{CommRing}

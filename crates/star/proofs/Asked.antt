@@ -1,28 +1,28 @@
 -- What star knows of its triple, whose span J is an ideal. j is the class of the least degree d; d1 and d2 are the degrees of the next classes.
 --   least-of               the class of the least degree, by three comparisons
 --   degrees-of             the leads of J by the degrees
---   in-span, degree-pole, member-monic     each member is in J, monic of its degree
+--   in-span, member-monic, member-pole     each member is in J, monic of its degree
+--   least-element          the member of the class j is the least element of J
 --   least-small, first-small, second-small     bounds of the three degrees
 --   steps-of               the five pairs of d1 − d and d2 − d
 --   near-1, near-2         d1 is d + 1 or d + 4; d2 is d + 2 or d + 5 if it is not d + 8
 --   least-low              … and then d is at least 3
 --   y-asked                what star asks of y_multiples
-use mathlib.Core.Path.{_≡_, refl, sym, _∙_, ap, ap₂, subst}
+use mathlib.Core.Path.{_≡_, subst}
 use mathlib.Core.List.{List}
 use mathlib.Core.Logic.{_⊎_, inl, inr, ⊎-elim}
 use Prim.Native.Nat.{ℕ, zero, suc, _+_, _%_, _<_, _≤_}
 use native.Mathlib.Omega.{arith}
 use native.Mathlib.Decide.{decLe}
-use Rattle.algebra.specs.Ring.{CommRing}
-use Rattle.ideal.specs.Poles.{largest-gap, IsPole, HasPole, Monic}
+use Rattle.ideal.specs.Poles.{largest-gap, HasPole, Monic}
 use Rattle.ideal.specs.Reduced.{Least}
 use Rattle.ideal.proofs.Gaps.{pole-apart}
 use Rattle.ideal.proofs.Degree.{monic-pole, pole-number}
 use Rattle.ideal.proofs.Leads.{Lead}
-use Rattle.vector.specs.Vector.{Vec, at, row, element, width}
+use Rattle.vector.specs.Vector.{Vec, at, row, element}
 use Rattle.vector.specs.Contract.{YMultiplesAsked}
-use Rattle.triple.specs.Setting.{Setting, ring, poles-of}
-use Rattle.triple.specs.Triple.{Present, Full, Spanned}
+use Rattle.triple.specs.Setting.{Setting, poles-of}
+use Rattle.triple.specs.Triple.{Present, Spanned}
 use Rattle.triple.proofs.Element.{present-monic}
 use Rattle.triple.proofs.Members.{spanned-row}
 use Rattle.triple.proofs.Leads.{spanned-lead}
@@ -66,13 +66,23 @@ module _ {p k : ℕ} {f : List ℕ} {t : List (List ℕ)} {d : List ℕ} (A : St
   class-lead i n e (g, m, q) = subst (λ a. at d a ≤ n) e (spanned-lead S (A .full .triple) m q .0)
 
   module _ {j : ℕ} (L : LeastOf d j) where
+    -- the three degrees
+    abbrev d₀ : ℕ
+    d₀ = at d j
+
+    abbrev d₁ : ℕ
+    d₁ = at d ((j + 1) % 3)
+
+    abbrev d₂ : ℕ
+    d₂ = at d ((j + 2) % 3)
+
     first : (j + 1) % 3 < 3
     first = omega arith
 
     second : (j + 2) % 3 < 3
     second = omega arith
 
-    pub degrees-of : Degrees (poles-of S) (Spanned S t) (at d j) (at d ((j + 1) % 3)) (at d ((j + 2) % 3))
+    pub degrees-of : Degrees (poles-of S) (Spanned S t) (d₀) (d₁) (d₂)
     degrees-of =
         record {
           least-1 = L .lowest ((j + 1) % 3) first;
@@ -84,54 +94,54 @@ module _ {p k : ℕ} {f : List ℕ} {t : List (List ℕ)} {d : List ℕ} (A : St
           lead-2 = λ n e l. class-lead ((j + 2) % 3) n (omega (arith, present j (L .inside) .class)) l;
         }
 
-    pub steps-of : Steps (at d j) (at d ((j + 1) % 3)) (at d ((j + 2) % 3))
+    pub steps-of : Steps (d₀) (d₁) (d₂)
     steps-of =
         steps (poles-of S) (Spanned S t) degrees-of (A .ideal) (element p (S .curve) (row t j), in-span j (L .inside), member-pole j (L .inside)) (element p (S .curve) (row t ((j + 1) % 3)), in-span ((j + 1) % 3) first, member-pole ((j + 1) % 3) first)
 
     pub least-element : Least (poles-of S) (Spanned S t) (element p (S .curve) (row t j))
     least-element =
         record {
-          pole = at d j;
+          pole = d₀;
           member = in-span j (L .inside);
           monic = member-monic j (L .inside);
           lowest = degrees-lowest (poles-of S) (Spanned S t) degrees-of;
         }
 
-    pub least-small : at d j ≤ 12
+    pub least-small : d₀ ≤ 12
     least-small = go (A .small)
       where
-        go : (i : ℕ) × (i < 3) × (at d i ≤ 12) → at d j ≤ 12
+        go : (i : ℕ) × (i < 3) × (at d i ≤ 12) → d₀ ≤ 12
         go (i, h, l) = omega (arith, L .lowest i h)
 
-    pub near-1 : (at d ((j + 1) % 3) ≡ at d j + 1) ⊎ (at d ((j + 1) % 3) ≡ at d j + 4)
+    pub near-1 : (d₁ ≡ d₀ + 1) ⊎ (d₁ ≡ d₀ + 4)
     near-1 = go steps-of
       where
-        go : Steps (at d j) (at d ((j + 1) % 3)) (at d ((j + 2) % 3)) → (at d ((j + 1) % 3) ≡ at d j + 1) ⊎ (at d ((j + 1) % 3) ≡ at d j + 4)
+        go : Steps (d₀) (d₁) (d₂) → (d₁ ≡ d₀ + 1) ⊎ (d₁ ≡ d₀ + 4)
         go (steps-31 a b) = inl a
         go (steps-21 a b) = inr a
         go (steps-22 a b) = inl a
         go (steps-11 a b) = inr a
         go (steps-0 a b) = inr a
 
-    pub first-small : at d ((j + 1) % 3) ≤ 16
+    pub first-small : d₁ ≤ 16
     first-small = ⊎-elim (λ e. omega (arith, least-small)) (λ e. omega (arith, least-small)) near-1
 
-    module _ (some : ¬ (at d ((j + 2) % 3) ≡ at d j + 8)) where
-      pub near-2 : (at d ((j + 2) % 3) ≡ at d j + 2) ⊎ (at d ((j + 2) % 3) ≡ at d j + largest-gap)
+    module _ (some : ¬ (d₂ ≡ d₀ + 8)) where
+      pub near-2 : (d₂ ≡ d₀ + 2) ⊎ (d₂ ≡ d₀ + largest-gap)
       near-2 = go steps-of
         where
-          go : Steps (at d j) (at d ((j + 1) % 3)) (at d ((j + 2) % 3)) → (at d ((j + 2) % 3) ≡ at d j + 2) ⊎ (at d ((j + 2) % 3) ≡ at d j + largest-gap)
+          go : Steps (d₀) (d₁) (d₂) → (d₂ ≡ d₀ + 2) ⊎ (d₂ ≡ d₀ + largest-gap)
           go (steps-31 a b) = inl b
           go (steps-21 a b) = inl b
           go (steps-22 a b) = inr b
           go (steps-11 a b) = inr b
           go (steps-0 a b) = absurd (some b)
 
-      pub second-small : at d ((j + 2) % 3) ≤ 17
+      pub second-small : d₂ ≤ 17
       second-small = ⊎-elim (λ e. omega (arith, least-small)) (λ e. omega (arith, least-small)) near-2
 
-      pub least-low : 3 ≤ at d j
-      least-low = go near-2 (decLe 3 (at d j))
+      pub least-low : 3 ≤ d₀
+      least-low = go near-2 (decLe 3 (d₀))
         where
           poles : (i : ℕ) (h : i < 3) → (¬ (at d i ≡ 1)) × (¬ (at d i ≡ 2)) × (¬ (at d i ≡ largest-gap))
           poles i h = pole-apart (pole-number (poles-of S) (member-pole i h))
@@ -139,7 +149,7 @@ module _ {p k : ℕ} {f : List ℕ} {t : List (List ℕ)} {d : List ℕ} (A : St
           low : (n : ℕ) → ¬ (n ≡ 1) → ¬ (n ≡ 2) → ¬ (3 ≤ n) → ¬ (n ≡ 0) → ⊥
           low n a b c z = omega arith
 
-          go : (at d ((j + 2) % 3) ≡ at d j + 2) ⊎ (at d ((j + 2) % 3) ≡ at d j + largest-gap) → Dec (3 ≤ at d j) → 3 ≤ at d j
+          go : (d₂ ≡ d₀ + 2) ⊎ (d₂ ≡ d₀ + largest-gap) → Dec (3 ≤ d₀) → 3 ≤ d₀
           go s (yes h) = h
-          go (inl e) (no h) = absurd (low (at d j) (poles j (L .inside) .0) (poles j (L .inside) .1) h (λ z. poles ((j + 2) % 3) second .1 (omega arith)))
-          go (inr e) (no h) = absurd (low (at d j) (poles j (L .inside) .0) (poles j (L .inside) .1) h (λ z. poles ((j + 2) % 3) second .2 (omega arith)))
+          go (inl e) (no h) = absurd (low (d₀) (poles j (L .inside) .0) (poles j (L .inside) .1) h (λ z. poles ((j + 2) % 3) second .1 (omega arith)))
+          go (inr e) (no h) = absurd (low (d₀) (poles j (L .inside) .0) (poles j (L .inside) .1) h (λ z. poles ((j + 2) % 3) second .2 (omega arith)))

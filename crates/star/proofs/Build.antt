@@ -3,13 +3,12 @@
 --   begun-start            1 at d + 5 and 0 elsewhere
 --   begun-next             the value at d + s, for f monic: the lead of mono s·f is twist s d, and c is its inverse
 --   begun-done             with the values up to d + 13 it is the functional of f
-use mathlib.Core.Path.{_≡_, refl, sym, _∙_, ap, ap₂, subst}
+use mathlib.Core.Path.{_≡_, _∙_, ap, ap₂}
 use mathlib.Core.List.{[], _∷_}
-use Prim.Native.Nat.{ℕ, zero, suc, _+_, _-_, _<_, _≤_}
+use Prim.Native.Nat.{ℕ, zero, suc, _+_, _<_, _≤_}
 use native.Mathlib.Omega.{arith}
 use native.Mathlib.Decide.{ℕ-discrete}
 use Rattle.algebra.specs.Ring.{CommRing}
-use Rattle.algebra.proofs.Laws as L
 use Rattle.algebra.proofs.Norm.{nil, unit}
 use Rattle.algebra.proofs.Solve.{solve-from, given, _⊞_, _⊠_, ⊟_}
 use Rattle.ideal.specs.Poles.{largest-gap}
@@ -43,7 +42,10 @@ module _ {k : CommRing} (C : Curve k) (N : ℕ) where
   begun-start f d lam e z =
       record { low = λ n h. z n (omega arith); one = e; kills = λ r a b. absurd (omega arith); high = λ n h. z n (omega arith) }
 
-  module _ {f : El} {d s : ℕ} {lam lam′ : ℕ → Car} (B : Begun f d s lam) (below : Below C (suc d) f) (monic : coefficient C d f ≡ 𝟙) (from : 6 ≤ s) (room : d + s < N) (c : Car) (inverse : c ·ₖ twist C s d ≡ 𝟙) (others : (n : ℕ) → ¬ (n ≡ d + s) → lam′ n ≡ lam n) (new : lam′ (d + s) ≡ -ₖ (c ·ₖ apply C N lam (mono C s ⊗ f))) where
+  module _ {f : El} {d s : ℕ} {lam lam′ : ℕ → Car} (B : Begun f d s lam) (below : Below C (suc d) f) (monic : coefficient C d f ≡ 𝟙) (from : 6 ≤ s) (room : d + s < N) (c : Car)
+      (inverse : c ·ₖ twist C s d ≡ 𝟙)
+      (others : (n : ℕ) → ¬ (n ≡ d + s) → lam′ n ≡ lam n)
+      (new : lam′ (d + s) ≡ -ₖ (c ·ₖ apply C N lam (mono C s ⊗ f))) where
     lead : coefficient C (d + s) (mono C s ⊗ f) ≡ twist C s d ·ₖ (𝟙 ·ₖ 𝟙)
     lead =
         ap (λ n. coefficient C n (mono C s ⊗ f)) {x = d + s} {y = s + d} (omega arith)

@@ -1,11 +1,12 @@
 -- A candidate whose numbers solve the equations lies in the colon ideal (f : J).
 --   Scene                  an ideal J with a least element f and monic elements u and w of degrees d, d1 and d2, and the functional of f
---   shifted-below, shifted-lead        x^(h/3)·w has the degree d2 + h and the lead of w
+--   lead-1, lead-2, lead-5 J's leads d + 1, d + 2 and d + 5
 --   candidate-member       mono n + a4·y + a3·x + a0 is in (f : J)
---   drop-y, drop-x         a candidate without y, without x
-use mathlib.Core.Path.{_≡_, refl, sym, _∙_, ap, ap₂, subst}
+--   shifted-below, shifted-lead        x^i·g has the degree of g raised by 3·i, and the lead of g
+--   drop-y, drop-x, drop-both          candidates without y, without x, without both
+use mathlib.Core.Path.{_≡_, sym, _∙_, ap, subst}
 use mathlib.Core.Logic.{_⊎_, inl, inr}
-use Prim.Native.Nat.{ℕ, zero, suc, _+_, _*_, _-_, _/_, _%_, _<_, _≤_}
+use Prim.Native.Nat.{ℕ, zero, suc, _+_, _*_, _-_, _/_, _<_, _≤_}
 use native.Mathlib.Omega.{arith}
 use Rattle.algebra.specs.Ring.{CommRing, Field}
 use Rattle.algebra.proofs.Laws as L
@@ -121,7 +122,10 @@ module _ (K : Field) (C : Curve (K .ring)) (nonzero : ¬ (C .a0 ≡ K .ring .zer
     pub lead-5 : Lead (poles K C nonzero) J (d + largest-gap)
     lead-5 = (v, v-in, v-pole)
 
-    module _ (n : ℕ) (a4 a3 a0 : Car) (e4 : d1 ≡ d + 1 → (c : Car) × (c ·ₖ twist C 4 (d + 1) ≡ 𝟙) × (a4 ≡ -ₖ (c ·ₖ apply C N lam (mono C n ⊗ u)))) (e3 : d2 ≡ d + 2 → a3 ≡ -ₖ (a4 ·ₖ apply C N lam (mono C 4 ⊗ w) +ₖ apply C N lam (mono C n ⊗ w))) (e0 : a0 ≡ -ₖ (a3 ·ₖ apply C N lam (mono C 3 ⊗ v) +ₖ (a4 ·ₖ apply C N lam (mono C 4 ⊗ v) +ₖ apply C N lam (mono C n ⊗ v)))) where
+    module _ (n : ℕ) (a4 a3 a0 : Car)
+        (e4 : d1 ≡ d + 1 → (c : Car) × (c ·ₖ twist C 4 (d + 1) ≡ 𝟙) × (a4 ≡ -ₖ (c ·ₖ apply C N lam (mono C n ⊗ u))))
+        (e3 : d2 ≡ d + 2 → a3 ≡ -ₖ (a4 ·ₖ apply C N lam (mono C 4 ⊗ w) +ₖ apply C N lam (mono C n ⊗ w)))
+        (e0 : a0 ≡ -ₖ (a3 ·ₖ apply C N lam (mono C 3 ⊗ v) +ₖ (a4 ·ₖ apply C N lam (mono C 4 ⊗ v) +ₖ apply C N lam (mono C n ⊗ v)))) where
       killed-1 : (d1 ≡ d + 1) ⊎ (d1 ≡ d + 4) → (¬ Lead (poles K C nonzero) J (d + 1)) ⊎ Killed K C nonzero N d J lam 1 (candidate C n a4 a3 a0)
       killed-1 (inr e) = inl (none-1 (poles K C nonzero) J (S .degrees) e)
       killed-1 (inl e) = inr (u, S .u-in, u-pole e, go (e4 e))

@@ -5,13 +5,13 @@
 --   steps                  … for an ideal that has the leads d and d1
 --   none-1, none-2, none-5 J has no lead d + 1, d + 2, d + 5 if d1 is larger, d2 is larger, d2 is d + 8
 use mathlib.Core.Path.{_≡_, refl}
-use Prim.Native.Nat.{ℕ, suc, _+_, _%_, _<_, _≤_}
+use Prim.Native.Nat.{ℕ, _+_, _%_, _≤_}
 use native.Mathlib.Omega.{arith}
 use native.Mathlib.Decide.{ℕ-discrete}
 use Rattle.algebra.specs.Ring.{CommRing}
 use Rattle.ideal.specs.Ideal.{IsIdeal}
 use Rattle.ideal.specs.Poles.{Poles, HasPole}
-use Rattle.ideal.proofs.Degree.{mono-has, pole-mul, pole-at}
+use Rattle.ideal.proofs.Degree.{mono-has, pole-mul}
 use Rattle.ideal.proofs.Leads.{Lead}
 use Rattle.ideal.proofs.Span.{four-pole}
 

@@ -3,27 +3,25 @@
 --   functional-kernel      apply lam h = 0 puts h in the kernel of f, for h below d + 14
 --   functional-low         the functional is 0 below d + 5
 --   functional-top         … and the coefficient at d + 5 of an element below d + 6
---   functional-start       the functional that is 1 at d + 5 alone, before any multiple of f
---   functional-next        the value at d + s that makes the functional 0 at mono s·f
-use mathlib.Core.Path.{_≡_, refl, sym, _∙_, ap, ap₂, subst}
-use Prim.Native.Nat.{ℕ, zero, suc, _+_, _-_, _<_, _≤_}
+use mathlib.Core.Path.{_≡_, sym, _∙_, ap, ap₂, subst}
+use Prim.Native.Nat.{ℕ, zero, suc, _+_, _<_, _≤_}
 use native.Mathlib.Omega.{arith}
-use native.Mathlib.Decide.{ℕ-discrete, decLe}
+use native.Mathlib.Decide.{ℕ-discrete}
 use Rattle.algebra.specs.Ring.{CommRing, Field}
 use Rattle.algebra.proofs.Laws as L
-use Rattle.algebra.proofs.Solve.{solve, _⊞_, _⊠_, ⊟_}
-use Rattle.ideal.specs.Poles.{largest-gap, IsPole, HasPole}
+use Rattle.algebra.proofs.Solve.{solve, _⊞_, _⊠_}
+use Rattle.ideal.specs.Poles.{largest-gap, HasPole}
 use Rattle.ideal.proofs.Gaps.{pole-large}
 use Rattle.ideal.proofs.Degree.{lowered, mono-has, pole-mul, pole-at}
 use Rattle.ideal.proofs.Kernel.{Ker, ker-below, ker-less}
 use Rattle.curve.specs.Curve.{Curve, Coordinate, constant}
-use Rattle.curve.specs.Monomial.{coefficient, mono, twist}
+use Rattle.curve.specs.Monomial.{coefficient, mono}
 use Rattle.curve.specs.Filtration.{Below, below-none, below-more, below-step}
-use Rattle.curve.specs.Product.{split, below-mono, coefficient-mono, product-below, product-top}
+use Rattle.curve.specs.Product.{split}
 use Rattle.curve.specs.Poles.{poles}
 use Rattle.curve.specs.Poles as CP
 use Rattle.star.specs.Functional.{apply, Functional}
-use Rattle.star.proofs.Apply.{apply-add, apply-scale, apply-low, apply-top, apply-same, apply-more}
+use Rattle.star.proofs.Apply.{apply-add, apply-scale, apply-low, apply-top}
 
 module _ (K : Field) (C : Curve (K .ring)) where
   open CommRing (K .ring) using (Car, zero as 𝟘, one as 𝟙, add as _+ₖ_, mul as _·ₖ_, neg as -ₖ_)

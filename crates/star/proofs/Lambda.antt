@@ -2,14 +2,13 @@
 --   Partial p k ys d s lam         the loop's invariant
 --   partial-start, partial-more, partial-done          its start, a turn and its end
 --   partial-asked                  what a turn asks of value
-use mathlib.Core.Path.{_≡_, refl, sym, _∙_, ap, ap₂, subst}
+use mathlib.Core.Path.{_≡_, refl, sym, _∙_, ap, subst}
 use mathlib.Core.List.{List}
-use mathlib.Core.Logic.{_⊎_, inl, inr}
-use Prim.Native.Nat.{ℕ, zero, suc, _+_, _*_, _-_, _/_, _%_, _<_, _≤_}
+use mathlib.Core.Logic.{inl, inr}
+use Prim.Native.Nat.{ℕ, suc, _+_, _*_, _-_, _%_, _<_, _≤_}
 use native.Mathlib.Omega.{arith}
 use lib.ListN.{length, set, replicate}
 use lib.Seq.{getD-set-same, getD-set-other}
-use Rattle.algebra.specs.Ring.{CommRing}
 use Rattle.algebra.proofs.Laws as L
 use Rattle.field.specs.Residue.{Z, el}
 use Rattle.field.specs.Element.{el-zero, el-one}
@@ -18,8 +17,8 @@ use Rattle.curve.specs.Curve.{Curve, Coordinate}
 use Rattle.curve.specs.Monomial.{coefficient, power, monomial, mono, twist}
 use Rattle.curve.specs.Filtration.{Below, coefficient-below}
 use Rattle.vector.specs.Vector.{Vec, Top, at, res, row, element, width}
-use Rattle.vector.specs.Contract.{Rows, RowsOf}
-use Rattle.vector.proofs.Loop.{set-cases, vec-set, zeros-at}
+use Rattle.vector.specs.Contract.{RowsOf}
+use Rattle.vector.proofs.Loop.{vec-set, zeros-at}
 use Rattle.vector.proofs.Product.{zeros-vec}
 use Rattle.vector.proofs.Element.{element-coefficient}
 use Rattle.star.specs.Functional.{apply}

@@ -5,7 +5,7 @@
 --   all-members            every g is in (f : J) if J has none of these leads
 use mathlib.Core.Path.{_≡_, sym, subst}
 use mathlib.Core.Logic.{_⊎_, inl, inr}
-use Prim.Native.Nat.{ℕ, suc, _+_, _<_, _≤_}
+use Prim.Native.Nat.{ℕ, _+_, _<_, _≤_}
 use native.Mathlib.Omega.{arith}
 use Rattle.algebra.specs.Ring.{CommRing, Field}
 use Rattle.ideal.specs.Ideal.{IsIdeal, Colon}

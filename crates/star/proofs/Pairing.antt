@@ -1,9 +1,9 @@
--- What value and value_at compute: Λ(x^(s/3)·v) and Λ(mono n·x^(h/3)·g), and the numbers that are made of them.
+-- What value and value_at compute: Λ(x^(s/3)·v) and Λ(mono n·x^(h/3)·g), for the functional Λ with the values lam.
 --   valued-shifted, valued-plain       the sum from s, and from c, is the functional's value
 --   value-asked                        what value_at asks of value
 --   value-at                           the y-multiples of g, shifted, are the products of mono n·x^(h/3) with g
 --   value-at-none                      … with no shift
-use mathlib.Core.Path.{_≡_, refl, sym, _∙_, ap, ap₂}
+use mathlib.Core.Path.{_≡_, sym, _∙_, ap, ap₂}
 use mathlib.Core.List.{List}
 use mathlib.Core.Logic.{_⊎_, inl, inr, ⊎-elim}
 use Prim.Native.Nat.{ℕ, zero, suc, _+_, _*_, _-_, _/_, _%_, _<_, _≤_}
@@ -18,8 +18,8 @@ use Rattle.field.specs.Contract.{Is}
 use Rattle.ideal.specs.Poles.{largest-gap}
 use Rattle.curve.specs.Curve.{Curve, Coordinate, x, y}
 use Rattle.curve.specs.Monomial.{coefficient, power, monomial, mono}
-use Rattle.vector.specs.Vector.{Vec, at, res, row, element, x-to, y-to, width}
-use Rattle.vector.specs.Contract.{total, pairing, Rows, RowsOf}
+use Rattle.vector.specs.Vector.{at, res, row, element, x-to, width}
+use Rattle.vector.specs.Contract.{pairing, RowsOf}
 use Rattle.vector.proofs.Monomial.{shift-high, shift-low}
 use Rattle.vector.proofs.Element.{element-coefficient}
 use Rattle.star.specs.Functional.{apply}

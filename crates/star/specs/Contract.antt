@@ -10,7 +10,7 @@
 --   ValuesOf                     values_of: Λ(y·w), Λ(y·v) and Λ(x·v), v = x^(h/3)·w
 --   YAsked, XAsked, OneAsked, TermY, TermX, TermOne      term_y, term_x, term_one: the numbers of a candidate mono n + a4·y + a3·x + a0, one after the other
 --   SolveAsked, Solved           solve: … all three
---   divisor-11 … divisor-31      the divisors of the kinds, their numbers taken from candidates
+--   divisor-0 … divisor-31       the divisors of the kinds, their numbers taken from candidates
 --   Made11 … Made31              star_11 … star_31: the divisor has the numbers of its kind's candidates
 --   ByKind                       by_kind: … of the kind that the degrees tell
 --   FromAsked                    star_from: the least degree is at hand, and the star is not the zero class
@@ -18,7 +18,6 @@ use mathlib.Core.Path.{_≡_}
 use mathlib.Core.List.{List}
 use mathlib.Core.Logic.{_⊎_}
 use Prim.Native.Nat.{ℕ, _+_, _*_, _-_, _/_, _%_, _<_, _≤_}
-use Rattle.algebra.specs.Ring.{CommRing}
 use Rattle.field.specs.Residue.{Z, el}
 use Rattle.ideal.specs.Ideal.{IsIdeal}
 use Rattle.ideal.specs.Poles.{largest-gap}
@@ -186,6 +185,10 @@ pub record Solved (p k : ℕ) (lam : List ℕ) (us ws : List (List ℕ)) (d d1 d
   pub y-term : TermY p k lam us d d1 n (r .a4)
   pub x-term : TermX p lam ws d d2 n (r .a4) (r .a3)
   pub one-term : TermOne p lam ws d d2 n (r .a4) (r .a3) (r .a0)
+
+-- 1
+abbrev pub divisor-0 : Divisor
+divisor-0 = record { kind = 0; n0 = 0; n1 = 0; n2 = 0; n3 = 0; n4 = 0; n5 = 0; n6 = 0; n7 = 0; n8 = 0 }
 
 -- x + f0; y + g0
 abbrev pub divisor-11 : Terms → Terms → Divisor

@@ -8,9 +8,8 @@
 --   cube-of, derivative-x-of, derivative-y-of      what cube, derivative_x and derivative_y return
 use mathlib.Core.Path.{_≡_, refl, sym, _∙_, ap, ap₂, subst}
 use mathlib.Core.List.{List, [], _∷_, _++_}
-use Prim.Native.Nat.{ℕ, zero, suc, _+_, _*_, _-_, _<_, _≤_}
+use Prim.Native.Nat.{ℕ, zero, suc, _+_, _-_, _<_, _≤_}
 use native.Mathlib.Omega.{arith}
-use lib.Dec.{lit≤}
 use lib.ListN.{length, getD, replicate, List·getD-eq-default}
 use lib.Seq.{getD-append-add}
 use Rattle.algebra.specs.Ring.{CommRing}
@@ -21,18 +20,19 @@ use Rattle.field.specs.Contract.{Is}
 use Rattle.ideal.proofs.Every.{Every}
 use Rattle.curve.specs.Curve.{Curve, Coordinate, y}
 use Rattle.curve.specs.Curve as K
-use Rattle.curve.specs.Back.{back, back-low, back-high, weigh, weigh-from, weigh-vanish}
+use Rattle.curve.specs.Back.{back-low, back-high, weigh, weigh-from}
 use Rattle.curve.specs.Coefficient.{at-ext, at-one-0, at-one-x, at-one-y, at-y-0, at-y-1, at-y-2}
 use Rattle.curve.specs.Pole.{pole}
 use Rattle.curve.specs.Monomial.{coefficient}
 use Rattle.curve.specs.Term.{coefficient-ext}
-use Rattle.nonsingular.specs.Derivative.{twice, thrice, four-times, vector-x, vector-y, derivative-x, derivative-y}
+use Rattle.curve.proofs.Monomial.{at-y-0-straight, at-y-1-straight, at-y-2-straight}
+use Rattle.nonsingular.specs.Derivative.{twice, thrice, vector-x, vector-y, derivative-x, derivative-y}
 use Rattle.nonsingular.proofs.Derivative.{coefficient-derivative-x, coefficient-derivative-y}
 use Rattle.vector.specs.Vector.{Vec, Top, at, res, element}
 use Rattle.vector.proofs.Loop.{zeros-at}
 use Rattle.vector.proofs.Element.{element-at, element-coefficient}
 use Rattle.triple.specs.declared.equation.Equation.{Equation}
-use Rattle.triple.specs.Equation.{curve-of, Coefficients, IsCube, DerivativeAsked, DerivativeX, DerivativeY}
+use Rattle.triple.specs.Equation.{curve-of, Coefficients, IsCube, DerivativeX, DerivativeY}
 
 abbrev pub Match : (p : ℕ) → List ℕ → List (Z p .Car) → Type 0
 Match p [] [] = Unit
@@ -54,23 +54,6 @@ padded-res p [] (x ∷ xs) k m n = absurd m
 padded-res p (a ∷ ns) [] k m n = absurd m
 padded-res p (a ∷ ns) (x ∷ xs) k (e, es) zero = e
 padded-res p (a ∷ ns) (x ∷ xs) k (e, es) (suc n) = padded-res p ns xs k es n
-
--- y·g for a g without y²: y moves the coefficients by one power of y
-module _ {k : CommRing} (C : Curve k) (g : Coordinate C .Car) (flat : (i : ℕ) → K.at C i 2 g ≡ k .zero) where
-  minus-zero : (a b : k .Car) → b ≡ k .zero → k .add a (k .neg b) ≡ a
-  minus-zero a b e = ap (λ u. k .add a (k .neg u)) e ∙ ap (k .add a) (L.neg-zero k) ∙ k .add-zero a
-
-  flat-0 : (i : ℕ) → K.at C i 0 (Coordinate C .mul (y C) g) ≡ k .zero
-  flat-0 i =
-      at-y-0 C i g
-      ∙ ap (k .neg) (weigh-vanish k 0 (C .c0 ∷ C .c1 ∷ C .c3 ∷ C .c6 ∷ C .a0 ∷ []) (λ m. K.at C m 2 g) i (λ m u. flat m))
-      ∙ L.neg-zero k
-
-  flat-1 : (i : ℕ) → K.at C i 1 (Coordinate C .mul (y C) g) ≡ K.at C i 0 g
-  flat-1 i = at-y-1 C i g ∙ minus-zero _ _ (weigh-vanish k 0 (C .c2 ∷ C .c4 ∷ C .c7 ∷ []) (λ m. K.at C m 2 g) i (λ m u. flat m))
-
-  flat-2 : (i : ℕ) → K.at C i 2 (Coordinate C .mul (y C) g) ≡ K.at C i 1 g
-  flat-2 i = at-y-2 C i g ∙ minus-zero _ _ (weigh-vanish k 0 (C .c5 ∷ C .c8 ∷ []) (λ m. K.at C m 2 g) i (λ m u. flat m))
 
 -- f is 1 at 0 and 0 elsewhere
 module _ (k : CommRing) (f : ℕ → k .Car) (first : f 0 ≡ k .one) (next : (n : ℕ) → f (suc n) ≡ k .zero) where
@@ -104,19 +87,19 @@ module _ {k : CommRing} (C : Curve k) where
   flat-one i = at-one-y C i 1
 
   flat-y : (i : ℕ) → K.at C i 2 (y C ⊗ 𝟏) ≡ 𝟘
-  flat-y i = flat-2 C 𝟏 flat-one i ∙ at-one-y C i 0
+  flat-y i = at-y-2-straight C 𝟏 flat-one i ∙ at-one-y C i 0
 
   abbrev square : El
   square = y C ⊗ (y C ⊗ 𝟏)
 
   square-0 : (i : ℕ) → K.at C i 0 square ≡ 𝟘
-  square-0 i = flat-0 C (y C ⊗ 𝟏) flat-y i
+  square-0 i = at-y-0-straight C (y C ⊗ 𝟏) flat-y i
 
   square-1 : (i : ℕ) → K.at C i 1 square ≡ 𝟘
-  square-1 i = flat-1 C (y C ⊗ 𝟏) flat-y i ∙ flat-0 C 𝟏 flat-one i
+  square-1 i = at-y-1-straight C (y C ⊗ 𝟏) flat-y i ∙ at-y-0-straight C 𝟏 flat-one i
 
   square-2 : (i : ℕ) → K.at C i 2 square ≡ K.at C i 0 𝟏
-  square-2 i = flat-2 C (y C ⊗ 𝟏) flat-y i ∙ flat-1 C 𝟏 flat-one i
+  square-2 i = at-y-2-straight C (y C ⊗ 𝟏) flat-y i ∙ at-y-1-straight C 𝟏 flat-one i
 
   weighed : (cs : List Car) (i : ℕ) → weigh k cs (λ n. K.at C n 2 square) i ≡ getD cs i 𝟘
   weighed = weigh-unit k (λ n. K.at C n 2 square) (square-2 0 ∙ at-one-0 C) (λ n. square-2 (suc n) ∙ at-one-x C n)

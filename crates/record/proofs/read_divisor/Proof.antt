@@ -62,7 +62,8 @@ returns-4 c =
     let r = c .before .before .before .before .value .result in
     let v = c .before .before .before .before .value .ensures in
     let below = c .before .before .before .all-below .ensures .holds (not-false _ (c .before .before .if2 .left)) in
-    found-basis (a .e) (now (a .f)) (now (a .s)) r o v form below _ (c .before .is-basis .ensures) (not-false _ (c .if3 .left)) (λ i. omega (arith, c .before .before .before .before .before .before .before .shared-slice-known .given i))
+    found-basis (a .e) (now (a .f)) (now (a .s)) r o v form below _ (c .before .is-basis .ensures) (not-false _ (c .if3 .left))
+    (λ i. omega (arith, c .before .before .before .before .before .before .before .shared-slice-known .given i))
 
 pub read-divisor-spec : {M : Type 1} → statement M
 read-divisor-spec =

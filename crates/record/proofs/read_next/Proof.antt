@@ -39,12 +39,36 @@ enum-known-read-2 c = search needs
 returns-4 : tie.Need-returns-4
 returns-4 c =
     let a = c .before .before .before .before .before .before .before .before .before .before .args in
-    next-is-given (a .e .p) (curve-of (a .e)) (now (a .s)) (c .before .before .before .before .before .before .before .before .if1 .left) (c .before .before .before .before .before .before .before .read-u16 .result) (c .before .before .before .before .before .before .before .read-u16 .ensures .is) (c .before .before .before .before .before .before .if2 .left) (c .before .before .before .before .before .if3 .left) (c .before .before .before .read-divisor .result) _ (c .before .before .before .read-divisor .ensures) (c .before .read .given .1)
+    next-is-given
+    (a .e .p)
+    (curve-of (a .e))
+    (now (a .s))
+    (c .before .before .before .before .before .before .before .before .if1 .left)
+    (c .before .before .before .before .before .before .before .read-u16 .result)
+    (c .before .before .before .before .before .before .before .read-u16 .ensures .is)
+    (c .before .before .before .before .before .before .if2 .left)
+    (c .before .before .before .before .before .if3 .left)
+    (c .before .before .before .read-divisor .result)
+    _
+    (c .before .before .before .read-divisor .ensures)
+    (c .before .read .given .1)
 
 returns-5 : tie.Need-returns-5
 returns-5 c =
     let a = c .before .before .before .before .before .before .before .before .before .before .args in
-    next-is-refused (a .e .p) (curve-of (a .e)) (now (a .s)) (c .before .before .before .before .before .before .before .before .if1 .left) (c .before .before .before .before .before .before .before .read-u16 .result) (c .before .before .before .before .before .before .before .read-u16 .ensures .is) (c .before .before .before .before .before .before .if2 .left) (c .before .before .before .before .before .if3 .left) (c .before .before .before .read-divisor .result) _ (c .before .before .before .read-divisor .ensures) (c .before .read2 .given .1)
+    next-is-refused
+    (a .e .p)
+    (curve-of (a .e))
+    (now (a .s))
+    (c .before .before .before .before .before .before .before .before .if1 .left)
+    (c .before .before .before .before .before .before .before .read-u16 .result)
+    (c .before .before .before .before .before .before .before .read-u16 .ensures .is)
+    (c .before .before .before .before .before .before .if2 .left)
+    (c .before .before .before .before .before .if3 .left)
+    (c .before .before .before .read-divisor .result)
+    _
+    (c .before .before .before .read-divisor .ensures)
+    (c .before .read2 .given .1)
 
 pub read-next-spec : {M : Type 1} → statement M
 read-next-spec =

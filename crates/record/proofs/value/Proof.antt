@@ -1,6 +1,5 @@
 -- Each number is read at its place.
 use borrow.Author.Needs.{needs}
-use denote.Ref.{now}
 use Rattle.record.proofs.Answer.{nine}
 use Rattle.record.proofs.value.Statement.{statement}
 use Rattle.record.proofs.value.Tie as tie
@@ -37,10 +36,20 @@ word-requires-9 c κs = search needs
 
 returns : tie.Need-returns
 returns c =
-    let s = now (c .before .before .before .before .before .before .before .before .before .before .before .args .s) in
     record {
       kind = c .before .before .before .before .before .before .before .before .before .read-u16 .ensures .is;
-      number = nine _ (c .before .before .before .before .before .before .before .before .word .ensures) (c .before .before .before .before .before .before .before .word2 .ensures) (c .before .before .before .before .before .before .word3 .ensures) (c .before .before .before .before .before .word4 .ensures) (c .before .before .before .before .word5 .ensures) (c .before .before .before .word6 .ensures) (c .before .before .word7 .ensures) (c .before .word8 .ensures) (c .word9 .ensures);
+      number =
+          nine
+          _
+          (c .before .before .before .before .before .before .before .before .word .ensures)
+          (c .before .before .before .before .before .before .before .word2 .ensures)
+          (c .before .before .before .before .before .before .word3 .ensures)
+          (c .before .before .before .before .before .word4 .ensures)
+          (c .before .before .before .before .word5 .ensures)
+          (c .before .before .before .word6 .ensures)
+          (c .before .before .word7 .ensures)
+          (c .before .word8 .ensures)
+          (c .word9 .ensures);
     }
 
 pub value-spec : {M : Type 1} → statement M

@@ -1,0 +1,11 @@
+-- That the worked sums hold.
+pub mod Vanish
+pub mod Tests
+pub mod Element
+pub mod Basis
+pub mod Accepted
+pub mod Link
+pub mod Negative
+pub mod Rows
+pub mod Certificates
+pub mod Worked

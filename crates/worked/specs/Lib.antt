@@ -1,0 +1,2 @@
+-- The worked sums of document 01.
+pub mod Table

@@ -1,0 +1,27 @@
+/* A call as data, made by the archive: see call.h. */
+#include "call.h"
+
+int32_t by_library(const struct call *c)
+{
+    struct slice k = c->curve, a = c->a, b = c->b;
+    switch (c->verb) {
+    case CHECK_CURVE:
+        return c34_check_curve(k.at, k.len);
+    case CHECK_DIVISOR:
+        return c34_check_divisor(k.at, k.len, a.at, a.len);
+    case SUM:
+        return c34_sum(k.at, k.len, a.at, a.len, b.at, b.len, c->out, c->out_len);
+    case DOUBLE:
+        return c34_double(k.at, k.len, a.at, a.len, c->out, c->out_len);
+    case NEGATIVE:
+        return c34_negative(k.at, k.len, a.at, a.len, c->out, c->out_len);
+    case MULTIPLE:
+        return c34_multiple(k.at, k.len, a.at, a.len, c->n, c->out, c->out_len);
+    case LIST_SUM:
+        return c34_list_sum(k.at, k.len, a.at, a.len, c->out, c->out_len);
+    case COMPARE:
+        return c34_compare(k.at, k.len, a.at, a.len, b.at, b.len);
+    default:
+        return c34_count(k.at, k.len, a.at, a.len, c->kind);
+    }
+}

@@ -1,0 +1,120 @@
+/* What the tests of the archive share, all but the calls of the archive itself: see call.h. */
+#include "call.h"
+#include <stdio.h>
+#include <stdlib.h>
+
+const char *const verb_name[VERBS] = {"curve", "divisor", "sum", "double", "neg", "mul", "lsum", "cmp", "count"};
+
+int writes(enum verb verb)
+{
+    return verb == SUM || verb == DOUBLE || verb == NEGATIVE || verb == MULTIPLE || verb == LIST_SUM;
+}
+
+int takes_list(enum verb verb)
+{
+    return verb == LIST_SUM || verb == COUNT;
+}
+
+int takes_two(enum verb verb)
+{
+    return verb == SUM || verb == COMPARE;
+}
+
+/* ---- bytes ---- */
+
+uint32_t get16(const uint8_t *b)
+{
+    return b[0] + 256u * b[1];
+}
+
+uint32_t get32(const uint8_t *b)
+{
+    return get16(b) + 65536u * get16(b + 2);
+}
+
+void put16(uint8_t *b, uint32_t a)
+{
+    b[0] = (uint8_t)(a % 256);
+    b[1] = (uint8_t)(a / 256 % 256);
+}
+
+void put32(uint8_t *b, uint32_t a)
+{
+    put16(b, a % 65536);
+    put16(b + 2, a / 65536);
+}
+
+int numbers_of(uint32_t kind)
+{
+    return kind == 0 ? 0 : kind == 11 ? 2 : kind == 21 ? 4 : kind == 22 ? 3 : kind == 31 ? 9 : kind == 34 ? 10 : -1;
+}
+
+size_t put_record(uint8_t *b, uint32_t kind, const uint32_t *numbers)
+{
+    int m = numbers_of(kind);
+    put16(b, 4 + 4 * (uint32_t)m);
+    put16(b + 2, kind);
+    for (int i = 0; i < m; i++)
+        put32(b + 4 + 4 * i, numbers[i]);
+    return 4 + 4 * (size_t)m;
+}
+
+size_t put_curve(uint8_t *b, uint32_t p, const uint32_t c[9])
+{
+    uint32_t numbers[10] = {p};
+    for (int i = 0; i < 9; i++)
+        numbers[i + 1] = c[i];
+    return put_record(b, C34_CURVE, numbers);
+}
+
+/* ---- the fixed sequence: splitmix64 ---- */
+
+static uint64_t state;
+
+void seed(uint64_t s)
+{
+    state = s;
+}
+
+uint32_t random32(void)
+{
+    uint64_t z = state += 0x9E3779B97F4A7C15u;
+    z = (z ^ (z >> 30)) * 0xBF58476D1CE4E5B9u;
+    z = (z ^ (z >> 27)) * 0x94D049BB133111EBu;
+    return (uint32_t)((z ^ (z >> 31)) >> 32);
+}
+
+uint32_t random_below(uint32_t n)
+{
+    return (uint32_t)((uint64_t)random32() * n >> 32);
+}
+
+/* ---- failing ---- */
+
+static void show_slice(const char *name, struct slice s)
+{
+    printf(" %s[%zu]=", name, s.len);
+    for (size_t i = 0; i < s.len && i < 200; i++)
+        printf("%02x", s.at[i]);
+}
+
+void show(const struct call *c)
+{
+    printf("%s", verb_name[c->verb]);
+    show_slice("curve", c->curve);
+    if (c->verb != CHECK_CURVE)
+        show_slice("a", c->a);
+    if (takes_two(c->verb))
+        show_slice("b", c->b);
+    printf(" n=%lld kind=%u buffer=%zu\n", (long long)c->n, c->kind, c->out_len);
+}
+
+void require(int condition, const char *what, const struct call *c)
+{
+    if (condition)
+        return;
+    printf("FAILED: %s\n", what);
+    if (c != NULL)
+        show(c);
+    exit(1);
+}

@@ -1,0 +1,13 @@
+// The header from C++: it compiles, and a call through it works.
+#include "c34.h"
+#include <cstdio>
+
+int main()
+{
+    int32_t (*check)(const uint8_t *, size_t) = c34_check_curve;
+    const uint8_t none[1] = {0};
+    if (c34_check_curve(nullptr, 0) != -C34_REFUSED_CURVE_LENGTH || check(none, 0) != -C34_REFUSED_CURVE_LENGTH)
+        return 1;
+    std::puts("header: usable from C++");
+    return 0;
+}

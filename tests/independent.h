@@ -1,0 +1,49 @@
+/* Document 01 once more, written from its definitions with naive linear algebra and from nothing else: what the library
+   is tested against. It shares no algorithm with the library.
+
+   curve           the modulus and the coefficients
+   element         of the ring, as a vector by pole number: place 3i + 4j holds the coefficient of x^i y^j, j at most 2
+   ideal           nonzero, as generators: for each residue modulo 3 a monic element of least pole number with that residue
+   nonsingular     1 if the curve is
+   is_basis        1 if a record is one
+   ideal_of        the ideal that a record's polynomials generate
+   product, star   J K and J*
+   reduced         (J*)*
+   record_of       the record of a reduced ideal
+   refusal_of      the number of the refusal of a call, 0 if it is accepted
+   answer_of       what an accepted call returns; its result buffer is filled
+   by_definition   both together */
+#ifndef INDEPENDENT_H
+#define INDEPENDENT_H
+#include "call.h"
+#include "space.h"
+
+struct curve {
+    uint32_t p, c[9];
+};
+
+struct ideal {
+    uint32_t g[3][WIDTH];
+    unsigned pole[3];
+};
+
+/* The terms of F: term t is term(k, t) times x^term_x[t] y^term_y[t]. The first is y^3. */
+enum { TERMS = 11 };
+extern const unsigned term_x[TERMS], term_y[TERMS];
+uint32_t term(const struct curve *k, int t);
+
+int nonsingular(const struct curve *k);
+
+int is_basis(const struct curve *k, const uint8_t *record);
+struct ideal ideal_of(const struct curve *k, const uint8_t *record);
+struct ideal product(const struct curve *k, const struct ideal *a, const struct ideal *b);
+struct ideal star(const struct curve *k, const struct ideal *a);
+struct ideal reduced(const struct curve *k, const struct ideal *a);
+size_t record_of(const struct curve *k, const struct ideal *a, uint8_t *record);
+
+struct curve curve_of(const uint8_t *record);
+int32_t refusal_of(const struct call *c);
+int32_t answer_of(const struct call *c);
+int32_t by_definition(const struct call *c);
+
+#endif

@@ -1,0 +1,200 @@
+/* Random and mutated inputs, from a fixed seed: the library against the independent implementation.
+   random [ACCEPTED] [MUTATED]: so many accepted calls, then so many mutated ones. */
+#include "sample.h"
+#include <stdio.h>
+#include <stdlib.h>
+#include <string.h>
+
+enum { SAMPLES = 40, LIST_ROOM = 4096, OUT_ROOM = 128, FILL = 0x5A };
+
+static const uint32_t primes[] = {2, 2, 2, 3, 3, 3, 5, 5, 7, 11, 13, 101, 251, 1009, 65521, 268435399, 2147483629, 2147483647};
+
+static struct sample sample[SAMPLES];
+static uint8_t given[3][LIST_ROOM + 64]; /* the bytes of curve, a and b */
+static struct call c;
+static long refused[12], accepted[VERBS], made;
+
+/* ---- an accepted call ---- */
+
+static void lend(int i, struct slice s, struct slice *to)
+{
+    memcpy(given[i], s.at, s.len);
+    *to = (struct slice){given[i], s.len};
+}
+
+static void lend_list(const struct sample *s)
+{
+    unsigned count = random_below(10) == 0 ? random_below(40) : random_below(6);
+    size_t n = 0;
+    for (unsigned i = 0; i < count; i++) {
+        const struct record *r = pick(s);
+        memcpy(given[1] + n, r->b, r->len);
+        n += r->len;
+    }
+    c.a = (struct slice){given[1], n};
+}
+
+static int64_t random_multiplier(void)
+{
+    static const int64_t border[] = {0, 1, -1, 2, -2, INT64_MAX, INT64_MIN, INT64_MIN + 1};
+    int64_t n = (int64_t)((uint64_t)random32() << 32 | random32());
+    switch (random_below(8)) {
+    case 0:
+        return border[random_below(8)];
+    case 1:
+        return n;
+    default:
+        return (int64_t)random_below(41) - 20;
+    }
+}
+
+static void make_call(const struct sample *s)
+{
+    static uint8_t out[OUT_ROOM];
+    struct record a, b;
+    pick_pair(s, &a, &b);
+    c.verb = random_below(3) == 0 ? SUM : (enum verb)random_below(VERBS);
+    lend(0, slice_of_curve(s), &c.curve);
+    lend(1, slice_of_record(&a), &c.a);
+    lend(2, slice_of_record(&b), &c.b);
+    if (takes_list(c.verb))
+        lend_list(s);
+    c.n = random_multiplier();
+    c.kind = random_below(4) == 0 ? random32() : get16(pick(s)->b + 2);
+    c.out = out;
+    c.out_len = writes(c.verb) ? (random_below(10) == 0 ? random_below(64) : 40) : 0;
+}
+
+/* ---- comparing ---- */
+
+/* Both implementations return the same and leave the same buffer; e is the number of the refusal, or 0. */
+static void compare(int32_t e)
+{
+    static uint8_t other[OUT_ROOM];
+    struct call d = c;
+    memset(c.out, FILL, OUT_ROOM);
+    memset(other, FILL, OUT_ROOM);
+    d.out = other;
+    int32_t want = e != 0 ? -e : answer_of(&d), got = by_library(&c);
+    if (want != got)
+        printf("returned %d, by the definition %d\n", (int)got, (int)want);
+    require(want == got, "the returned numbers differ", &c);
+    require(memcmp(c.out, other, OUT_ROOM) == 0, "the result buffers differ", &c);
+    made++;
+    if (want < 0)
+        refused[-want]++;
+    else
+        accepted[c.verb]++;
+}
+
+/* ---- mutations ---- */
+
+static void mutate_number(uint8_t *b, uint32_t p)
+{
+    const uint32_t value[] = {0, 1, p - 1, p, p + 1, 0x7FFFFFFF, 0x80000000, 0xFFFFFFFF, random32()};
+    put32(b, random_below(2) == 0 ? random_below(p) : value[random_below(9)]);
+}
+
+static void mutate_header(uint8_t *b)
+{
+    static const uint16_t value[] = {0, 1, 3, 4, 11, 12, 16, 20, 21, 22, 31, 34, 40, 44, 256, 65535};
+    put16(b + 2 * random_below(2), random_below(4) == 0 ? random_below(65536) : value[random_below(16)]);
+}
+
+/* Changes, shortens or lengthens the bytes; numbers are taken at multiples of four. */
+static void mutate(struct slice *s, uint8_t *b, uint32_t p)
+{
+    size_t words = s->len / 4;
+    switch (random_below(8)) {
+    case 0:
+        s->len = random_below((uint32_t)s->len + 1);
+        return;
+    case 1:
+        memset(b + s->len, (int)random_below(3), 48);
+        s->len += 1 + random_below(48);
+        if (random_below(2) == 0)
+            put16(b, (uint32_t)s->len);
+        return;
+    case 2:
+        if (s->len > 0)
+            b[random_below((uint32_t)s->len)] ^= (uint8_t)(1 << random_below(8));
+        return;
+    case 3:
+        if (words > 0)
+            mutate_header(b + 4 * random_below(random_below(2) == 0 ? 1 : (uint32_t)words));
+        return;
+    default:
+        if (words > 1)
+            mutate_number(b + 4 + 4 * random_below((uint32_t)words - 1), p);
+    }
+}
+
+/* A record of random numbers below p: often no basis. */
+static void random_record(struct slice *s, uint8_t *b, uint32_t p)
+{
+    static const uint32_t kinds[4] = {11, 21, 22, 31};
+    uint32_t numbers[9], kind = kinds[random_below(4)];
+    for (int i = 0; i < 9; i++)
+        numbers[i] = random_below(p);
+    s->len = put_record(b, kind, numbers);
+}
+
+static void mutate_call(const struct sample *s)
+{
+    uint32_t which = random_below(20);
+    if (which == 0)
+        mutate(&c.curve, given[0], s->k.p);
+    else if (which < 5 && takes_two(c.verb))
+        mutate(&c.b, given[2], s->k.p);
+    else if (which < 8 && !takes_list(c.verb))
+        random_record(&c.a, given[1], s->k.p);
+    else
+        mutate(&c.a, given[1], s->k.p);
+    if (random_below(8) == 0)
+        mutate_call(s);
+}
+
+/* ---- the runs ---- */
+
+static const struct sample *random_sample(void)
+{
+    return &sample[random_below(SAMPLES)];
+}
+
+/* Of the mutated calls that are still accepted and write, which take long, one in 64 is made. */
+static void run_mutated(void)
+{
+    const struct sample *s = random_sample();
+    for (int i = 0; i < 64; i++) {
+        make_call(s);
+        mutate_call(s);
+        int32_t e = refusal_of(&c);
+        if (e != 0 || !writes(c.verb) || random_below(64) == 0)
+            compare(e);
+    }
+}
+
+int main(int argc, char **argv)
+{
+    long full = argc > 1 ? atol(argv[1]) : 20000, mutated = argc > 2 ? atol(argv[2]) : 2000000, sums = 0;
+    seed(20261115);
+    for (unsigned i = 0; i < SAMPLES; i++)
+        make_sample(&sample[i], primes[i % (sizeof primes / sizeof *primes)], RECORDS);
+    for (long i = 0; i < full; i++) {
+        make_call(random_sample());
+        compare(refusal_of(&c));
+    }
+    for (int v = 0; v < VERBS; v++)
+        sums += writes((enum verb)v) ? accepted[v] : 0;
+    printf("random: %ld accepted calls agree, %ld of them give a record\n", full, sums);
+    made = 0;
+    while (made < mutated)
+        run_mutated();
+    printf("random: %ld mutated calls agree; refused by number 1 to 11:", made);
+    for (int e = 1; e <= 11; e++)
+        printf(" %ld", refused[e]);
+    printf("\n");
+    for (int e = 1; e <= 10; e++)
+        require(refused[e] > 0, "a refusal was never met", NULL);
+    return 0;
+}

@@ -1,0 +1,39 @@
+/* Curves and divisors to test with, made by the independent implementation.
+
+   sample        a nonsingular curve with some points and accepted records on it
+   make_sample   a random one
+   pick          a record of the sample
+   pick_pair     two records of the sample, one time in three a degenerate pair */
+#ifndef SAMPLE_H
+#define SAMPLE_H
+#include "independent.h"
+
+enum { POINTS = 16, RECORDS = 48, PAIRS = 32 };
+
+struct record {
+    uint8_t b[C34_BUFFER];
+    size_t len;
+};
+
+struct sample {
+    uint8_t curve[C34_CURVE_LENGTH];
+    struct curve k;
+    unsigned points, records;
+    struct record point[POINTS], record[RECORDS]; /* the first records are the points and the zero class */
+    struct record pair[PAIRS][2];                 /* equal, opposite, overlapping, or with a zero class */
+};
+
+struct slice slice_of_curve(const struct sample *s);
+struct slice slice_of_record(const struct record *r);
+
+/* For a large p the curve is laid through three random points; for a small one points are searched. */
+void make_sample(struct sample *s, uint32_t p, unsigned records);
+/* A random curve through three points that are not on a line. */
+void make_sample_through(struct sample *s, uint32_t p, const uint32_t x[3], const uint32_t y[3], unsigned records);
+
+const struct record *pick(const struct sample *s);
+struct record sum_of(const struct sample *s, const struct record *a, const struct record *b);
+struct record negative_of(const struct sample *s, const struct record *a);
+void pick_pair(const struct sample *s, struct record *a, struct record *b);
+
+#endif

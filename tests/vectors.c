@@ -1,0 +1,251 @@
+/* Makes the calls of a file of test vectors and compares: vectors FILE [PROGRAM]. The head of vectors.txt says how a line
+   reads. PROGRAM is the counting program; without it the lines of verb prog are left out. Two verbs are no calls, but
+   made of some, for the papers' examples:
+
+     negsum C LIST L   the negative of the list sum
+     lcm C A B G L     A + B - G, the class of the least common multiple of A and B if G is their greatest common divisor */
+#include "call.h"
+#include <stdio.h>
+#include <stdlib.h>
+#include <string.h>
+#include <sys/wait.h>
+#include <unistd.h>
+
+enum { ROOM = 1 << 18, FILL = 0xA5, WORDS = 8, AFTER = 16 };
+
+static char argument[WORDS][ROOM]; /* the arguments of this line, for the next one's dittos */
+static uint8_t bytes[WORDS][ROOM], want[ROOM], out[ROOM];
+static size_t length[WORDS];
+
+/* ---- reading ---- */
+
+static unsigned digit(char c)
+{
+    return (unsigned)(c <= '9' ? c - '0' : c - 'a' + 10);
+}
+
+/* The bytes of one part without its repetition; w is the length of its text. */
+static size_t part(const char *s, size_t w, uint8_t *to)
+{
+    uint32_t numbers[10] = {0};
+    size_t n = 0;
+    if (*s == 'x') {
+        for (size_t i = 1; i + 1 < w; i += 2)
+            to[n++] = (uint8_t)(16 * digit(s[i]) + digit(s[i + 1]));
+        return n;
+    }
+    char *end;
+    uint32_t kind = (uint32_t)strtoul(s, &end, 10);
+    while (end + 1 < s + w && n < 10)
+        numbers[n++] = (uint32_t)strtoul(end + 1, &end, 10);
+    require(numbers_of(kind) == (int)n, "a record of the file has the wrong number of numbers", NULL);
+    return put_record(to, kind, numbers);
+}
+
+/* The bytes of an argument. */
+static size_t read_bytes(const char *s, uint8_t *to)
+{
+    size_t n = 0;
+    while (*s != 0 && strcmp(s, "-") != 0) {
+        size_t w = strcspn(s, "+"), times = 1;
+        const char *star = memchr(s, '*', w);
+        if (star != NULL) {
+            times = strtoul(s, NULL, 10);
+            w -= (size_t)(star + 1 - s);
+            s = star + 1;
+        }
+        size_t one = part(s, w, to + n);
+        require(n + one * times <= ROOM, "an argument of the file is too long", NULL);
+        for (size_t i = 1; i < times; i++)
+            memcpy(to + n + i * one, to + n, one);
+        n += one * times;
+        s += w + (s[w] == '+');
+    }
+    return n;
+}
+
+static struct slice slice_of(int i)
+{
+    struct slice s = {bytes[i], length[i]};
+    return s;
+}
+
+/* ---- the calls ---- */
+
+/* The record written to `out` added to argument i, or its negative: the second half of a verb that is no call. */
+static int32_t then(struct call *c, enum verb verb, uint8_t *record, int32_t len)
+{
+    static uint8_t first[C34_BUFFER];
+    if (len < 0)
+        return len;
+    memcpy(first, record, (size_t)len);
+    memset(c->out, FILL, c->out_len);
+    c->verb = verb;
+    c->a = (struct slice){first, (size_t)len};
+    return by_library(c);
+}
+
+static int32_t lcm(struct call *c)
+{
+    static uint8_t minus_g[C34_BUFFER];
+    int32_t n = c34_negative(c->curve.at, c->curve.len, bytes[3], length[3], minus_g, sizeof minus_g);
+    c->verb = SUM;
+    int32_t m = by_library(c);
+    c->b = (struct slice){minus_g, n < 0 ? 0 : (size_t)n};
+    return then(c, SUM, c->out, m);
+}
+
+static int32_t negsum(struct call *c)
+{
+    c->verb = LIST_SUM;
+    return then(c, NEGATIVE, c->out, by_library(c));
+}
+
+static int slices_of(const char *verb)
+{
+    if (strcmp(verb, "curve") == 0 || strcmp(verb, "prog") == 0)
+        return 1;
+    return strcmp(verb, "lcm") == 0 ? 4 : strcmp(verb, "sum") == 0 || strcmp(verb, "cmp") == 0 ? 3 : 2;
+}
+
+/* The call of a line with `count` arguments. */
+static int32_t make(const char *name, int count, struct call *c)
+{
+    int slices = slices_of(name);
+    memset(c, 0, sizeof *c);
+    while (c->verb < VERBS && strcmp(verb_name[c->verb], name) != 0)
+        c->verb++;
+    c->curve = slice_of(0);
+    c->a = slice_of(1);
+    c->b = slice_of(2);
+    if (c->verb == MULTIPLE)
+        c->n = strtoll(argument[2], NULL, 10);
+    if (c->verb == COUNT)
+        c->kind = (uint32_t)strtoul(argument[2], NULL, 10);
+    if (c->verb == VERBS || writes(c->verb))
+        c->out_len = strtoul(argument[count - 1], NULL, 10);
+    require(slices < count + (c->out_len == 0) && c->out_len + AFTER <= ROOM, "a line lacks an argument", NULL);
+    c->out = out;
+    memset(out, FILL, c->out_len + AFTER);
+    if (c->verb < VERBS)
+        return by_library(c);
+    require(strcmp(name, "lcm") == 0 || strcmp(name, "negsum") == 0, "a line has an unknown verb", NULL);
+    return strcmp(name, "lcm") == 0 ? lcm(c) : negsum(c);
+}
+
+/* The buffer holds the n wanted bytes and is as it was after them. */
+static int buffer_is(size_t out_len, size_t n)
+{
+    if (n > out_len || memcmp(out, want, n) != 0)
+        return 0;
+    for (size_t i = n; i < out_len + AFTER; i++)
+        if (out[i] != FILL)
+            return 0;
+    return 1;
+}
+
+/* ---- the counting program ---- */
+
+/* Runs it on n bytes of standard input; its output ends up in `out`, as text. */
+static void run_program(const char *program, const uint8_t *in, size_t n)
+{
+    int from[2];
+    FILE *input = tmpfile();
+    require(input != NULL && fwrite(in, 1, n, input) == n && fflush(input) == 0, "no temporary file", NULL);
+    rewind(input);
+    require(pipe(from) == 0, "no pipe", NULL);
+    pid_t child = fork();
+    if (child == 0) {
+        dup2(fileno(input), 0);
+        dup2(from[1], 1);
+        close(from[0]);
+        close(from[1]);
+        execl(program, program, (char *)NULL);
+        _exit(127);
+    }
+    close(from[1]);
+    size_t m = 0;
+    for (ssize_t r; (r = read(from[0], out + m, ROOM - 1 - m)) > 0;)
+        m += (size_t)r;
+    out[m] = 0;
+    close(from[0]);
+    fclose(input);
+    int status = 0;
+    waitpid(child, &status, 0);
+    require(WIFEXITED(status) && WEXITSTATUS(status) == 0, "the counting program did not end with status 0", NULL);
+}
+
+/* `text` with ' / ' for each end of a line but the last. */
+static int output_is(const char *text)
+{
+    const char *o = (const char *)out;
+    for (; *text != 0; o++) {
+        if (strncmp(text, " / ", 3) == 0) {
+            text += 2;
+            if (*o != '\n')
+                return 0;
+        } else if (*text != *o)
+            return 0;
+        text++;
+    }
+    return strcmp(o, "\n") == 0;
+}
+
+/* ---- lines ---- */
+
+/* Splits the arguments of a line at its blanks; their number is returned. */
+static int read_arguments(char *text)
+{
+    int n = 0;
+    for (char *w = strtok(text, " "); w != NULL && n < WORDS; w = strtok(NULL, " "), n++)
+        if (strcmp(w, "\"") != 0)
+            strcpy(argument[n], w);
+    return n;
+}
+
+/* 1 if the line holds, 0 if not, -1 if it is left out. */
+static int line(char *text, const char *program)
+{
+    struct call c;
+    char *answer = strstr(text, " = "), *space = strchr(text, ' ');
+    require(answer != NULL && space < answer, "a line has no answer", NULL);
+    *answer = *space = 0;
+    answer += 3;
+    int count = read_arguments(space + 1);
+    for (int i = 0; i < slices_of(text); i++)
+        length[i] = read_bytes(argument[i], bytes[i]);
+    if (strcmp(text, "prog") == 0) {
+        if (program == NULL)
+            return -1;
+        run_program(program, bytes[0], length[0]);
+        return output_is(answer);
+    }
+    int32_t e = make(text, count, &c);
+    char *written = strchr(answer, ' ');
+    return e == strtol(answer, NULL, 10) && buffer_is(c.out_len, written == NULL ? 0 : read_bytes(written + 1, want));
+}
+
+int main(int argc, char **argv)
+{
+    static char text[ROOM], kept[ROOM];
+    int good = 0, omitted = 0, number = 0;
+    FILE *f = argc > 1 ? fopen(argv[1], "r") : NULL;
+    require(f != NULL, "usage: vectors FILE [PROGRAM]", NULL);
+    while (fgets(text, ROOM, f) != NULL) {
+        number++;
+        text[strcspn(text, "\n")] = 0;
+        if (text[0] == '#' || text[0] == 0)
+            continue;
+        strcpy(kept, text);
+        int r = line(text, argc > 2 ? argv[2] : NULL);
+        if (r == 0)
+            printf("%s:%d: %s\n", argv[1], number, kept);
+        require(r != 0, "a vector differs", NULL);
+        good += r == 1;
+        omitted += r == -1;
+    }
+    printf("vectors: %d of %s agree", good, argv[1]);
+    printf(omitted == 0 ? "\n" : ", %d of the counting program left out\n", omitted);
+    require(good > 0, "no vector", NULL);
+    return 0;
+}
