@@ -1,0 +1,2 @@
+-- Laws of a pool in lent memory.
+pub mod Slots

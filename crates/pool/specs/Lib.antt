@@ -1,0 +1,2 @@
+-- A pool in lent memory, and what the functions on it ensure.
+pub mod Held
