@@ -1,2 +1,3 @@
 -- Laws of a pool in lent memory.
 pub mod Slots
+pub mod Calls

@@ -1,10 +1,10 @@
 -- The slots of a pool: copying bytes, a record that comes in at the end, and closing up.
---   copied-none, copied-more    no byte is copied yet; one byte more
+--   copied-none, copied-more, copied-end    the loop that copies: no byte yet, one byte more, all
 --   entry-before, entry-last    the entries of a list with one record more
 --   held-more              a record that is written behind the others is held with them
 --   without-more           what is left of one record more
 --   Closing i j p m w s    the first m records of p are passed, and what is left of them stands in the first w slots
---   closing-none, closing-turn, closing-all    the loop that closes up
+--   closing-none, closing-turn, passed-below, closing-all    the loop that closes up
 use mathlib.Core.Path.{_≡_, refl, sym, ap, _∙_, subst}
 use mathlib.Core.List.{List, [], _∷_, _++_, append-nil}
 use mathlib.Core.Bool.{Bool, true, false}
@@ -35,6 +35,9 @@ copied-more s at t from n s′ v h l e = record {
     go : (k : ℕ) → k < n + 1 → Dec (k ≡ n) → getD (set s′ (at + n) v) (at + k) 0 ≡ getD t (from + k) 0
     go k m (yes q) = rw q (getD-set-same s′ (at + n) v 0 (omega (arith, h .long)) ∙ e)
     go k m (no q) = getD-set-other s′ (at + n) (at + k) v 0 (λ u. q (omega arith)) ∙ h .here k (omega (arith, q))
+
+pub copied-end : (s : List ℕ) (at : ℕ) (t : List ℕ) (from k n : ℕ) (s′ : List ℕ) → k ≡ n → Copied s at t from k s′ → Copied s at t from n s′
+copied-end s at t from k n s′ e h = subst (λ (m : ℕ). Copied s at t from m s′) e h
 
 module _ (p : List (List ℕ)) (w : List ℕ) where
   pub entry-before : (m : ℕ) → m < length p → entry (p ++ w ∷ []) m ≡ entry p m
@@ -164,6 +167,11 @@ module _ (i j : ℕ) (p : List (List ℕ)) (m w : ℕ) (s : List ℕ) (below : m
       rw e
       (comes s′ l f short c
       (ap (without i j) next ∙ without-other i j (take m p) (entry p m) (λ q. a (sym front ∙ q)) (λ q. b (sym front ∙ q))))
+
+pub passed-below : {s : List ℕ} {w m i j : ℕ} {s′ : List ℕ} {r : ℕ} → w ≤ m → Passed s w m i j s′ r → r ≤ m + 1
+passed-below l (first e q a) = omega arith
+passed-below l (second e q a) = omega arith
+passed-below l (other a b c e) = omega arith
 
 pub closing-all : (i j : ℕ) (p : List (List ℕ)) (n w : ℕ) (s : List ℕ) → length p ≡ n → Closing i j p n w s → Held s (without i j p)
 closing-all i j p n w s e h = subst (λ (q : List (List ℕ)). Held s (without i j q)) (take-all n p (omega (arith, e))) (h .new)
