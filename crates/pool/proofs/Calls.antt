@@ -1,6 +1,6 @@
 -- One sum call on a pool in lent memory.
 --   sized, slot-is         a slot of a pool of accepted records has a length field, and its bytes are the record
---   left-after             a call with a long enough buffer leaves one record less
+--   sum-slots              the sum call of the parts of the pool that two length fields give
 --   is-call                a sum of two slots is a call on the pool
 --   Wrote c r out′         what a call with a long enough buffer returns and leaves
 --   wrote                  it wrote a record
@@ -51,6 +51,20 @@ module _ (c s : List ℕ) (p : List (List ℕ)) (held : Held s p) (accepted : Ac
       same k l =
           let b : k < length (entry p m) = omega (arith, long) in
           getD-take (length (entry p m)) (drop (slot m) s) k 0 b ∙ getD-drop (slot m) s k 0 ∙ held .bytes m k below b
+
+-- The part of s that a call is lent for slot m, of the n bytes that the length field gives, is the record there.
+slot-part : (s : List ℕ) (m n : ℕ) → n ≡ number2 s (slot m) → take (slot m + n - slot m) (drop (slot m) s) ≡ at-slot s m
+unfolding at-slot
+slot-part s m n e =
+    let same : slot m + n - slot m ≡ number2 s (slot m) = omega (arith, e) in ap (λ (k : ℕ). take k (drop (slot m) s)) same
+
+pub sum-slots : (c s : List ℕ) (i j n m : ℕ) (out : List ℕ) (r z : ℤ) (out′ : List ℕ) → n ≡ number2 s (slot i) → m ≡ number2 s (slot j) → z ≡ r
+    → Sum c (take (slot i + n - slot i) (drop (slot i) s)) (take (slot j + m - slot j) (drop (slot j) s)) out r out′
+    → Sum c (at-slot s i) (at-slot s j) out z out′
+sum-slots c s i j n m out r z out′ e f q h =
+    subst (λ (a : List ℕ). Sum c a (at-slot s j) out z out′) (slot-part s i n e)
+    (subst (λ (b : List ℕ). Sum c (take (slot i + n - slot i) (drop (slot i) s)) b out z out′) (slot-part s j m f)
+    (subst (λ (y : ℤ). Sum c (take (slot i + n - slot i) (drop (slot i) s)) (take (slot j + m - slot j) (drop (slot j) s)) out y out′) (sym q) h))
 
 -- a record w of at most 40 bytes is at the start of the buffer, and its length is returned
 pub record Wrote (c : List ℕ) (out : List ℕ) (r : ℤ) (out′ : List ℕ) : Type 0 where
