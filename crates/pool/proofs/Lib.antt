@@ -2,3 +2,4 @@
 pub mod Slots
 pub mod Calls
 pub mod OneCall
+pub mod Runs

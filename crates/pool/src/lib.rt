@@ -1,6 +1,7 @@
 // A list of sum calls, carried out on a pool of records in lent memory: slots of 40 bytes, slot m from place 40·m on.
 ghost use mathlib.Core.Path.{_≡_};
 ghost use Prim.Native.Nat.{_+_, _*_, _≤_, _<_};
+ghost use lib.ListN.{length};
 ghost use Rattle.calls.specs.Call.{Sum};
 ghost use Rattle.pool.specs.Held.{at-slot, Copied, Passed, Closed};
 ghost use Rattle.pool.specs.Run.{Sized, StepAsked, StepMade, RunAsked, RunMade};
@@ -84,4 +85,28 @@ fn step(curve: &[u8], s: &mut [u8], n: usize, i: usize, j: usize, out: &mut [u8]
     close_up(s, n, i, j);
     copy_in(s, 40 * (n - 2), &out[..], r as usize);
     n - 1
+}
+
+// Carries out the sum calls on the first `count` records of the pool, one after the other. A call is three numbers: the places of its two
+// records and the length of its buffer, which is lent from `scratch`. The result is how many records are left.
+pub fn run_calls(
+    curve: &[u8],
+    pool: &mut [u8],
+    count: usize,
+    calls: &[u32],
+    scratch: &mut [u8],
+) -> usize
+    requires { ⌜ RunAsked (now curve) (now pool) count (now calls) (length (now scratch)) ⌝ }
+    ensures { λ r. ⌜ RunMade (now (curve .entry)) (now (pool .entry)) count (now (calls .entry)) (now (pool .exit)) r ⌝ }
+{
+    let mut left = count;
+    let mut at = 0;
+    while at < calls.len() {
+        let i = calls[at] as usize;
+        let j = calls[at + 1] as usize;
+        let l = calls[at + 2] as usize;
+        left = step(curve, pool, left, i, j, &mut scratch[..l]);
+        at += 3;
+    }
+    left
 }

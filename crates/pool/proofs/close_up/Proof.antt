@@ -44,8 +44,8 @@ loop-again c =
       passed-below (l .inv .1) (k .ensures),
       k .kept .0 ∙ l .inv .2,
       λ p e h.
-      closing-turn (a .i) (a .j) p (l .m) (l .w) (l .s) (omega arith) (l .inv .3 p e h) (k .last .0) (k .result) (l .inv .1)
-      (omega (arith, h .fits, l .inv .2)) (h .short (l .m) (omega arith)) (k .ensures),
+          closing-turn (a .i) (a .j) p (l .m) (l .w) (l .s) (omega arith) (l .inv .3 p e h) (k .last .0) (k .result) (l .inv .1)
+          (omega (arith, h .fits, l .inv .2)) (h .short (l .m) (omega arith)) (k .ensures),
     )
 
 same-length : tie.Need-same-length Inv-loop μ-loop

@@ -6,8 +6,6 @@ use Rattle.pool.specs.Held.{Copied}
 use Rattle.pool.proofs.Slots.{copied-none, copied-more, copied-end}
 use Rattle.pool.proofs.copy_back.Statement.{statement}
 use Rattle.pool.proofs.copy_back.Tie as tie
-use Rattle.pool.proofs.copy_back.Reads as reads
-use Rattle.pool.proofs.copy_back.Lts as lts
 
 abbrev Inv-loop : tie.InvT-loop
 Inv-loop s₀ at from n k₀ s k = (k ≤ n) × Copied s₀ at s₀ from k s

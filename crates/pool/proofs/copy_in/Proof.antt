@@ -8,8 +8,6 @@ use Rattle.pool.specs.Held.{Copied}
 use Rattle.pool.proofs.Slots.{copied-none, copied-more, copied-end}
 use Rattle.pool.proofs.copy_in.Statement.{statement}
 use Rattle.pool.proofs.copy_in.Tie as tie
-use Rattle.pool.proofs.copy_in.Reads as reads
-use Rattle.pool.proofs.copy_in.Lts as lts
 
 abbrev Inv-loop : tie.InvT-loop
 Inv-loop s₀ at t n k₀ s k = (k ≤ n) × Copied s₀ at t 0 k s
@@ -41,7 +39,7 @@ loop-again c =
     let a = c .before .before .before .args in (
       omega arith,
       copied-more (a .s .now) (a .at) (a .t .now) 0 (l .k) (l .s)
-      (getD (a .t .now) (l .k) 0) (l .inv .1) (omega arith) (ap (λ (x : ℕ). getD (a .t .now) x 0) (omega arith)),
+          (getD (a .t .now) (l .k) 0) (l .inv .1) (omega arith) (ap (λ (x : ℕ). getD (a .t .now) x 0) (omega arith)),
     )
 
 same-length : tie.Need-same-length Inv-loop μ-loop

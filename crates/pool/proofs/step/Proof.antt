@@ -6,28 +6,19 @@ use Rattle.pool.proofs.OneCall.{sizes, step-short, cast-fits, copy-fits
 use borrow.Author.Needs.{needs}
 use Rattle.pool.proofs.step.Statement.{statement}
 use Rattle.pool.proofs.step.Tie as tie
-use Rattle.pool.proofs.step.Reads as reads
-use Rattle.pool.proofs.step.Lts as lts
-use Rattle.pool.proofs.close_up.Reads as close-up-reads
-use Rattle.pool.proofs.copy_in.Reads as copy-in-reads
-use Rattle.pool.proofs.sum_slots.Reads as sum-slots-reads
 
--- src/lib.rt:80:9
 sum-slots-requires : tie.Need-sum-slots-requires
 sum-slots-requires c κs =
     let a = c .before .before .before .before .before .args in
     let q = c .before .before .before .before .before .pre in
     sizes (a .curve .now) (a .s .now) (a .n) (a .i) (a .j) q
 
--- src/lib.rt:82:9
 same-length : tie.Need-same-length
 same-length c = search needs
 
--- src/lib.rt:82:9
 same-length-2 : tie.Need-same-length-2
 same-length-2 c = search needs
 
--- src/lib.rt:82:9
 returns : tie.Need-returns
 returns c =
     let a = c .before .before .before .before .before .before .before .before .before .args in
@@ -37,19 +28,15 @@ returns c =
     let read = toZ-ofZ {w = w32} {z = k .result} (record { sfits = k .ok }) in
     step-short (a .curve .now) (a .s .now) (a .n) (a .i) (a .j) q (a .out .now) (k .result) out (k .ensures) (omega arith)
 
--- src/lib.rt:84:5
 close-up-requires : tie.Need-close-up-requires
 close-up-requires c κs = search needs
 
--- src/lib.rt:85:22
 sub-copy-in : tie.Need-sub-copy-in
 sub-copy-in c = search needs
 
--- src/lib.rt:85:16
 mul-copy-in : tie.Need-mul-copy-in
 mul-copy-in c = search needs
 
--- src/lib.rt:85:40
 cast-copy-in : tie.Need-cast-copy-in
 cast-copy-in c =
     let a = c .before .before .before .before .before .before .before .before .before .before .before .before .before .before .before .args in
@@ -59,7 +46,6 @@ cast-copy-in c =
     let read = toZ-ofZ {w = w32} {z = k .result} (record { sfits = k .ok }) in
     cast-fits (a .curve .now) (a .s .now) (a .n) (a .i) (a .j) q (a .out .now) (k .result) out (k .ensures) _ read (omega arith)
 
--- src/lib.rt:85:5
 copy-in-requires : tie.Need-copy-in-requires
 copy-in-requires c κs =
     let a = c .before .before .before .before .before .before .before .before .before .before .before .before .before .before .before .args in
@@ -69,19 +55,15 @@ copy-in-requires c κs =
     let read = toZ-ofZ {w = w32} {z = k .result} (record { sfits = k .ok }) in
     copy-fits (a .curve .now) (a .s .now) (a .n) (a .i) (a .j) q (a .out .now) (k .result) out (k .ensures) _ read (omega arith) (c .before .before .before .before .close-up .last .0) (omega arith) (omega arith)
 
--- src/lib.rt:86:5
 sub-result : tie.Need-sub-result
 sub-result c = search needs
 
--- src/lib.rt:76:1
 same-length-3 : tie.Need-same-length-3
 same-length-3 c = search needs
 
--- src/lib.rt:76:1
 same-length-4 : tie.Need-same-length-4
 same-length-4 c = search needs
 
--- src/lib.rt:76:1
 returns-2 : tie.Need-returns-2
 returns-2 c =
     let a = c .before .before .before .before .before .before .before .before .before .before .before .before .before .before .before .before .before .before .args in

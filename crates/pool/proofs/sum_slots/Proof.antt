@@ -5,76 +5,55 @@ use Rattle.pool.proofs.Calls.{sum-slots}
 use borrow.Author.Needs.{needs}
 use Rattle.pool.proofs.sum_slots.Statement.{statement}
 use Rattle.pool.proofs.sum_slots.Tie as tie
-use Rattle.pool.proofs.sum_slots.Reads as reads
-use Rattle.pool.proofs.sum_slots.Lts as lts
-use Rattle.c34.proofs.c34_sum.Reads as c34-sum-reads
-use Rattle.layout.proofs.read_u16.Reads as read-u16-reads
 
--- src/lib.rt:68:13
 mul-a : tie.Need-mul-a
 mul-a c = search needs
 
--- src/lib.rt:69:13
 mul-b : tie.Need-mul-b
 mul-b c = search needs
 
--- src/lib.rt:70:13
 read-u16-requires : tie.Need-read-u16-requires
 read-u16-requires c κs = search needs
 
--- src/lib.rt:70:13
 cast-n : tie.Need-cast-n
 cast-n c = search needs
 
--- src/lib.rt:71:13
 read-u16-requires-2 : tie.Need-read-u16-requires-2
 read-u16-requires-2 c κs = search needs
 
--- src/lib.rt:71:13
 cast-m : tie.Need-cast-m
 cast-m c = search needs
 
--- src/lib.rt:72:31
 add-c34-sum : tie.Need-add-c34-sum
 add-c34-sum c = search needs
 
--- src/lib.rt:72:25
 sub-c34-sum : tie.Need-sub-c34-sum
 sub-c34-sum c = search needs
 
--- src/lib.rt:72:25
 part-c34-sum-start : tie.Need-part-c34-sum-start
 part-c34-sum-start c = search needs
 
--- src/lib.rt:72:25
 part-c34-sum-end : tie.Need-part-c34-sum-end
 part-c34-sum-end c = search needs
 
--- src/lib.rt:72:45
 add-c34-sum-2 : tie.Need-add-c34-sum-2
 add-c34-sum-2 c = search needs
 
--- src/lib.rt:72:39
 sub-c34-sum-2 : tie.Need-sub-c34-sum-2
 sub-c34-sum-2 c = search needs
 
--- src/lib.rt:72:39
 part-c34-sum-start-2 : tie.Need-part-c34-sum-start-2
 part-c34-sum-start-2 c = search needs
 
--- src/lib.rt:72:39
 part-c34-sum-end-2 : tie.Need-part-c34-sum-end-2
 part-c34-sum-end-2 c = search needs
 
--- src/lib.rt:72:5
 c34-sum-requires : tie.Need-c34-sum-requires
 c34-sum-requires c κs = search needs
 
--- src/lib.rt:64:1
 same-length : tie.Need-same-length
 same-length c = search needs
 
--- src/lib.rt:64:1
 returns : tie.Need-returns
 returns c =
     let a = c .before .before .before .before .before .before .before .before .before .before .before .args in
