@@ -4,3 +4,5 @@ pub mod Returns
 pub mod Read
 pub mod Size
 pub mod Multiple
+pub mod Sums
+pub mod ListRead

@@ -9,8 +9,9 @@
 --   SumMade, NegativeMade, TimesMade, MultipleMade    the result is the divisor by value of the sum, the negative, the m-fold, the multiple
 --   Sized n r              r is the whole number n by its sign and size
 --   WritingAsked, Wrote    written: a divisor on some curve; its record stands at the start of the buffer
---   TotalRead c s r        list_total: the list sum of s by value, or the number of the first cause
---   TallyRead c s kind r   list_count: how many records of s have the kind, or the number of the first cause
+--   TotalRead e s r        list_total: the list sum of s by value, or the number of the first cause
+--   CountAsked e s         a list of at most 32,768 bytes
+--   TallyRead e s kind r   list_count: how many records of s have the kind, or the number of the first cause
 use mathlib.Core.Path.{_≡_}
 use mathlib.Core.List.{List, _++_}
 use Prim.Native.Nat.{ℕ, suc, _≤_}
@@ -21,7 +22,7 @@ use Rattle.triple.specs.declared.equation.Equation.{Equation}
 use Rattle.basis.specs.declared.Divisor.{Divisor}
 use Rattle.record.specs.Cause.{Stage, FirstCause}
 use Rattle.record.specs.Curve.{modulus, equation, curve-stages, AcceptedCurve}
-use Rattle.record.specs.Listed.{Listed, ListRefused}
+use Rattle.record.specs.Listed.{Listed, ListRefused, list-limit}
 use Rattle.record.specs.Reading.{equation-value, DivisorGiven}
 use Rattle.calls.specs.Class.{IsSum, IsNegative, IsListSum, IsMultiple}
 use Rattle.calls.specs.Call.{divisor-of, room, tally}
@@ -102,6 +103,11 @@ TotalRead e s (total.Sum x) =
     (c : List ℕ) → On c e → (rs : List (List ℕ)) × (w : List ℕ) × Listed (modulus c) (equation c) s rs × IsListSum c rs w × GivenOn c w x
 TotalRead e s (total.Refused n) = (c : List ℕ) → On c e → ListRefused (modulus c) (equation c) s n
 
+pub record CountAsked (e : Equation) (s : List ℕ) : Type 0 where
+  pub curved : Curved e
+  pub short : length s ≤ list-limit
+
 abbrev pub TallyRead : Equation → List ℕ → ℕ → Tally → Type 0
-TallyRead e s kind (count.Count n) = (c : List ℕ) → On c e → (rs : List (List ℕ)) × Listed (modulus c) (equation c) s rs × (n ≡ tally kind rs)
+TallyRead e s kind (count.Count n) =
+    (n ≤ length s) × ((c : List ℕ) → On c e → (rs : List (List ℕ)) × Listed (modulus c) (equation c) s rs × (n ≡ tally kind rs))
 TallyRead e s kind (count.Refused n) = (c : List ℕ) → On c e → ListRefused (modulus c) (equation c) s n

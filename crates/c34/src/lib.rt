@@ -9,7 +9,7 @@ ghost use mathlib.Core.Path.{_≡_};
 ghost use Prim.Native.Nat.{_≤_};
 ghost use Rattle.calls.specs.Answer.{minus};
 ghost use Rattle.calls.specs.Call.{CheckCurve, CheckDivisor, Sum, Double, Negative, Multiple, ListSum, Compare, Count};
-ghost use Rattle.c34.specs.Part.{OneRead, TwoRead, Curved, OneAsked, TwoAsked, SumMade, NegativeMade, TimesMade, MultipleMade, Sized, WritingAsked, Wrote, TotalRead, TallyRead};
+ghost use Rattle.c34.specs.Part.{OneRead, TwoRead, Curved, OneAsked, TwoAsked, SumMade, NegativeMade, TimesMade, MultipleMade, Sized, WritingAsked, Wrote, TotalRead, CountAsked, TallyRead};
 
 // A curve and a divisor on it.
 pub enum One {
@@ -186,7 +186,7 @@ fn list_total(e: Equation, list: &[u8]) -> Total
 
 // How many divisors of a list have the kind.
 fn list_count(e: Equation, list: &[u8], kind: u32) -> Tally
-    requires { ⌜ Curved e ⌝ }
+    requires { ⌜ CountAsked e (now list) ⌝ }
     ensures { λ r. ⌜ TallyRead e (now (list .entry)) kind r ⌝ }
 {
     let f = triple::equation::cube(e);
@@ -197,9 +197,9 @@ fn list_count(e: Equation, list: &[u8], kind: u32) -> Tally
         match read {
             NextAnswer::Next(x, n) => {
                 if x.kind == kind {
-                    count = count + 1;
+                    count += 1;
                 }
-                at = at + n;
+                at += n;
             }
             NextAnswer::Refused(n) => {
                 return Tally::Refused(n);
@@ -326,9 +326,7 @@ pub extern "C" fn c34_compare(curve: &[u8], a: &[u8], b: &[u8]) -> i32
 {
     let read = read_two(curve, a, b);
     match read {
-        Two::Given(_, _, _) => {
-            if layout::same_bytes(a, b) { 1 } else { 0 }
-        }
+        Two::Given(_, _, _) => { if layout::same_bytes(a, b) { 1 } else { 0 } }
         Two::Refused(n) => refusal(n),
     }
 }

@@ -8,10 +8,6 @@ use mathlib.Core.Path.{refl, _∙_}
 use borrow.Author.Needs.{needs}
 use Rattle.c34.proofs.c34_check_curve.Statement.{statement}
 use Rattle.c34.proofs.c34_check_curve.Tie as tie
-use Rattle.c34.proofs.c34_check_curve.Reads as reads
-use Rattle.c34.proofs.c34_check_curve.Lts as lts
-use Rattle.c34.proofs.refusal.Reads as refusal-reads
-use Rattle.record.proofs.read_curve.Reads as read-curve-reads
 
 read-curve-requires : tie.Need-read-curve-requires
 read-curve-requires c κs = search needs

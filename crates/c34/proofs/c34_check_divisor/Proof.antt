@@ -8,10 +8,6 @@ use mathlib.Core.Path.{refl, _∙_}
 use borrow.Author.Needs.{needs}
 use Rattle.c34.proofs.c34_check_divisor.Statement.{statement}
 use Rattle.c34.proofs.c34_check_divisor.Tie as tie
-use Rattle.c34.proofs.c34_check_divisor.Reads as reads
-use Rattle.c34.proofs.c34_check_divisor.Lts as lts
-use Rattle.c34.proofs.read_one.Reads as read-one-reads
-use Rattle.c34.proofs.refusal.Reads as refusal-reads
 
 read-one-requires : tie.Need-read-one-requires
 read-one-requires c κs = search needs

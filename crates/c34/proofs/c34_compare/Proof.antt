@@ -9,11 +9,6 @@ use mathlib.Core.Path.{refl, _∙_}
 use borrow.Author.Needs.{needs}
 use Rattle.c34.proofs.c34_compare.Statement.{statement}
 use Rattle.c34.proofs.c34_compare.Tie as tie
-use Rattle.c34.proofs.c34_compare.Reads as reads
-use Rattle.c34.proofs.c34_compare.Lts as lts
-use Rattle.c34.proofs.read_two.Reads as read-two-reads
-use Rattle.c34.proofs.refusal.Reads as refusal-reads
-use Rattle.layout.proofs.same_bytes.Reads as same-bytes-reads
 
 read-two-requires : tie.Need-read-two-requires
 read-two-requires c κs = search needs

@@ -11,12 +11,6 @@ use mathlib.Core.Path.{refl, _∙_}
 use borrow.Author.Needs.{needs}
 use Rattle.c34.proofs.c34_negative.Statement.{statement}
 use Rattle.c34.proofs.c34_negative.Tie as tie
-use Rattle.c34.proofs.c34_negative.Reads as reads
-use Rattle.c34.proofs.c34_negative.Lts as lts
-use Rattle.c34.proofs.negative_on.Reads as negative-on-reads
-use Rattle.c34.proofs.read_one.Reads as read-one-reads
-use Rattle.c34.proofs.refusal.Reads as refusal-reads
-use Rattle.c34.proofs.written.Reads as written-reads
 
 read-one-requires : tie.Need-read-one-requires
 read-one-requires c κs = search needs

@@ -11,12 +11,6 @@ use mathlib.Core.Path.{refl, _∙_}
 use borrow.Author.Needs.{needs}
 use Rattle.c34.proofs.c34_sum.Statement.{statement}
 use Rattle.c34.proofs.c34_sum.Tie as tie
-use Rattle.c34.proofs.c34_sum.Reads as reads
-use Rattle.c34.proofs.c34_sum.Lts as lts
-use Rattle.c34.proofs.read_two.Reads as read-two-reads
-use Rattle.c34.proofs.refusal.Reads as refusal-reads
-use Rattle.c34.proofs.sum_on.Reads as sum-on-reads
-use Rattle.c34.proofs.written.Reads as written-reads
 
 read-two-requires : tie.Need-read-two-requires
 read-two-requires c κs = search needs

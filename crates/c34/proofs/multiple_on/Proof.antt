@@ -4,11 +4,6 @@ use Rattle.c34.proofs.Multiple.{times-asked, multiple-up, multiple-down
 use borrow.Author.Needs.{needs}
 use Rattle.c34.proofs.multiple_on.Statement.{statement}
 use Rattle.c34.proofs.multiple_on.Tie as tie
-use Rattle.c34.proofs.multiple_on.Reads as reads
-use Rattle.c34.proofs.multiple_on.Lts as lts
-use Rattle.c34.proofs.negative_on.Reads as negative-on-reads
-use Rattle.c34.proofs.size_of.Reads as size-of-reads
-use Rattle.c34.proofs.times_on.Reads as times-on-reads
 
 size-of-requires : tie.Need-size-of-requires
 size-of-requires c κs = search needs

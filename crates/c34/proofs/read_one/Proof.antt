@@ -7,11 +7,6 @@ use mathlib.Core.Path.{refl}
 use borrow.Author.Needs.{needs}
 use Rattle.c34.proofs.read_one.Statement.{statement}
 use Rattle.c34.proofs.read_one.Tie as tie
-use Rattle.c34.proofs.read_one.Reads as reads
-use Rattle.c34.proofs.read_one.Lts as lts
-use Rattle.record.proofs.read_curve.Reads as read-curve-reads
-use Rattle.record.proofs.read_divisor.Reads as read-divisor-reads
-use Rattle.triple.proofs.equation.cube.Reads as cube-reads
 
 read-curve-requires : tie.Need-read-curve-requires
 read-curve-requires c κs = search needs

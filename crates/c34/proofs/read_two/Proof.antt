@@ -6,11 +6,6 @@ use denote.Ref.{now}
 use borrow.Author.Needs.{needs}
 use Rattle.c34.proofs.read_two.Statement.{statement}
 use Rattle.c34.proofs.read_two.Tie as tie
-use Rattle.c34.proofs.read_two.Reads as reads
-use Rattle.c34.proofs.read_two.Lts as lts
-use Rattle.c34.proofs.read_one.Reads as read-one-reads
-use Rattle.record.proofs.read_divisor.Reads as read-divisor-reads
-use Rattle.triple.proofs.equation.cube.Reads as cube-reads
 
 read-one-requires : tie.Need-read-one-requires
 read-one-requires c κs = search needs

@@ -7,8 +7,6 @@ use mathlib.Core.Path.{_∙_, ap}
 use borrow.Author.Needs.{needs}
 use Rattle.c34.proofs.refusal.Statement.{statement}
 use Rattle.c34.proofs.refusal.Tie as tie
-use Rattle.c34.proofs.refusal.Reads as reads
-use Rattle.c34.proofs.refusal.Lts as lts
 
 cast-result : tie.Need-cast-result
 cast-result c = search needs

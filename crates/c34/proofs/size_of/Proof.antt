@@ -2,8 +2,6 @@
 use Rattle.c34.proofs.Size.{size-up-fits, size-up, add-fits, negate-fits, cast-fits, size-fits, size-down}
 use Rattle.c34.proofs.size_of.Statement.{statement}
 use Rattle.c34.proofs.size_of.Tie as tie
-use Rattle.c34.proofs.size_of.Reads as reads
-use Rattle.c34.proofs.size_of.Lts as lts
 
 cast-t4 : tie.Need-cast-t4
 cast-t4 c = size-up-fits (c .before .args .n) (c .before .fits .n) (c .if1 .taken)

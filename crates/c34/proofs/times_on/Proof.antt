@@ -2,11 +2,6 @@
 use Rattle.c34.proofs.Ground.{cube-asked, one-below, negative-asked, times-made}
 use Rattle.c34.proofs.times_on.Statement.{statement}
 use Rattle.c34.proofs.times_on.Tie as tie
-use Rattle.c34.proofs.times_on.Reads as reads
-use Rattle.c34.proofs.times_on.Lts as lts
-use Rattle.field.proofs.neg.Reads as neg-reads
-use Rattle.group.proofs.multiple.Reads as multiple-reads
-use Rattle.triple.proofs.equation.cube.Reads as cube-reads
 
 cube-requires : tie.Need-cube-requires
 cube-requires c κs = cube-asked _ (c .pre .curve, c .pre .on)

@@ -3,9 +3,6 @@ use Rattle.c34.proofs.Returns.{write-asked, write-fits, wrote}
 use borrow.Author.Needs.{needs}
 use Rattle.c34.proofs.written.Statement.{statement}
 use Rattle.c34.proofs.written.Tie as tie
-use Rattle.c34.proofs.written.Reads as reads
-use Rattle.c34.proofs.written.Lts as lts
-use Rattle.record.proofs.write_divisor.Reads as write-divisor-reads
 
 write-divisor-requires : tie.Need-write-divisor-requires
 write-divisor-requires c κs = write-asked (c .before .before .pre)

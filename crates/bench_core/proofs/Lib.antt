@@ -1,0 +1,2 @@
+-- From reading to what the arithmetic requires.
+pub mod Ground

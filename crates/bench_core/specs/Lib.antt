@@ -1,0 +1,2 @@
+-- What reading gives and what the loops require.
+pub mod Contract

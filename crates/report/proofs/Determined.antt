@@ -1,0 +1,32 @@
+-- Each input has at most one text.
+use mathlib.Core.Path.{_≡_, sym, ap, ap₂, _∙_, subst}
+use mathlib.Core.List.{List, _++_}
+use Prim.Native.Nat.{ℕ}
+use Rattle.record.specs.Cause.{FirstCause, Passes}
+use Rattle.record.specs.Curve.{modulus, equation, curve-stages}
+use Rattle.record.proofs.Cause.{passes-refuses, one-cause, passes-append}
+use Rattle.record.proofs.Lists.{listed-once}
+use Rattle.calls.specs.Class.{IsListSum}
+use Rattle.calls.specs.Call.{list-of}
+use Rattle.calls.proofs.Answers.{list-of-sound}
+use Rattle.calls.proofs.Multiples.{list-one}
+use Rattle.report.specs.Report.{ReportOn, refused, counted, Report, curve-part, list-part, lines, refused-line}
+
+module _ (c s text text′ : List ℕ) where
+  -- what is accepted is not refused
+  never-both : (n : ℕ) → Passes (curve-stages c ++ list-of c s) → FirstCause (curve-stages c ++ list-of c s) n → ⊥
+  never-both n p f = passes-refuses (curve-stages c ++ list-of c s) (list-of-sound c s) p n f
+
+  report-on-one : ReportOn c s text → ReportOn c s text′ → text ≡ text′
+  report-on-one (refused n f e) (refused m g e′) =
+      e ∙ ap refused-line (one-cause (curve-stages c ++ list-of c s) (list-of-sound c s) n m f g) ∙ sym e′
+  report-on-one (refused n f e) (counted rs w p l k e′) = absurd (never-both n p f)
+  report-on-one (counted rs w p l k e) (refused n f e′) = absurd (never-both n p f)
+  report-on-one (counted rs w p l k e) (counted rs′ w′ p′ l′ k′ e′) =
+      let same : rs′ ≡ rs = listed-once (modulus c) (equation c) s rs′ rs l′ l in
+      let accepted = passes-append (curve-stages c) (list-of c s) .0 p .0 in
+      let sum : IsListSum c rs w′ = subst (λ (ws : List (List ℕ)). IsListSum c ws w′) same k′ in
+      e ∙ ap₂ lines (sym same) (list-one c accepted rs w w′ (l .accepted) k sum) ∙ sym e′
+
+pub report-determined : (input text text′ : List ℕ) → Report input text → Report input text′ → text ≡ text′
+report-determined input text text′ = report-on-one (curve-part input) (list-part input) text text′

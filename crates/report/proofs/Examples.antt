@@ -1,0 +1,41 @@
+-- Lines that document 01 gives, computed.
+use mathlib.Core.Path.{_≡_, refl}
+use mathlib.Core.List.{List, [], _∷_, _++_}
+use Rattle.text.specs.Ascii.{ascii}
+use Rattle.text.specs.Decimal.{decimal, decimal-upto, two-digits}
+use Rattle.layout.specs.Layout.{number2, number4, numbers, bytes2, bytes4, all-bytes4, record-bytes}
+use Rattle.calls.specs.Class.{zero-record}
+use Rattle.report.specs.Report.{per-cent, share-line, count-line, count-lines, spaced, sum-line, refused-line}
+
+-- "One typical record among 32 gives `share 3.13`."
+pub one-of-32 : share-line 1 32 ≡ ascii "share 3.13\n"
+unfolding share-line per-cent decimal decimal-upto two-digits
+one-of-32 = refl
+
+pub none-of-3 : share-line 0 3 ≡ ascii "share 0.00\n"
+unfolding share-line per-cent decimal decimal-upto two-digits
+none-of-3 = refl
+
+pub all-typical : share-line 7 7 ≡ ascii "share 100.00\n"
+unfolding share-line per-cent decimal decimal-upto two-digits
+all-typical = refl
+
+pub empty-list : share-line 0 0 ≡ ascii "share none\n"
+unfolding share-line
+empty-list = refl
+
+pub kinds-of-the-example : count-lines 0 3 0 0 0 ≡ ascii "zero 0\n11 3\n21 0\n22 0\n31 0\n"
+unfolding count-lines count-line decimal decimal-upto
+kinds-of-the-example = refl
+
+pub sum-of-the-example : sum-line (record-bytes 31 (4 ∷ 2 ∷ 4 ∷ 0 ∷ 3 ∷ 0 ∷ 3 ∷ 0 ∷ 4 ∷ [])) ≡ ascii "sum 31 4 2 4 0 3 0 3 0 4\n"
+unfolding sum-line spaced numbers number2 number4 record-bytes bytes2 bytes4 all-bytes4 decimal decimal-upto
+sum-of-the-example = refl
+
+pub zero-sum : sum-line zero-record ≡ ascii "sum 0\n"
+unfolding sum-line spaced numbers number2 number4 record-bytes bytes2 all-bytes4 decimal decimal-upto
+zero-sum = refl
+
+pub refused-11 : refused-line 11 ≡ ascii "refused 11\n"
+unfolding refused-line count-line decimal decimal-upto
+refused-11 = refl

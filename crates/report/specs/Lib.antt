@@ -1,0 +1,3 @@
+-- What the counting program prints.
+pub mod Report
+pub mod Contracts

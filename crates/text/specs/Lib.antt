@@ -1,0 +1,4 @@
+-- Text as bytes.
+pub mod Ascii
+pub mod Decimal
+pub mod Put
