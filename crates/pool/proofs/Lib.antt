@@ -1,0 +1,5 @@
+-- Laws of a pool in lent memory.
+pub mod Slots
+pub mod Calls
+pub mod OneCall
+pub mod Runs

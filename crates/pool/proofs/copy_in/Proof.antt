@@ -1,0 +1,57 @@
+-- `pool::copy_in` meets its contract. The loop's invariant: the first k bytes are copied.
+use Prim.Native.Nat.{ℕ, _≤_, _-_}
+use mathlib.Core.Path.{ap}
+use native.Mathlib.Omega.{arith}
+use lib.ListN.{getD}
+use borrow.Author.Needs.{needs}
+use Rattle.pool.specs.Held.{Copied}
+use Rattle.pool.proofs.Slots.{copied-none, copied-more, copied-end}
+use Rattle.pool.proofs.copy_in.Statement.{statement}
+use Rattle.pool.proofs.copy_in.Tie as tie
+
+abbrev Inv-loop : tie.InvT-loop
+Inv-loop s₀ at t n k₀ s k = (k ≤ n) × Copied s₀ at t 0 k s
+
+abbrev μ-loop : tie.MeasureT-loop
+μ-loop s₀ at t n k₀ s k = n - k
+
+loop-holds : tie.Need-loop-holds Inv-loop μ-loop
+loop-holds c = let a = c .args in (omega arith, copied-none (a .s .now) (a .at) (a .t .now) 0)
+
+shared-slice-read-s : tie.Need-shared-slice-read-s Inv-loop μ-loop
+shared-slice-read-s c = search needs
+
+add-s : tie.Need-add-s Inv-loop μ-loop
+add-s c = search needs
+
+slice-write-s : tie.Need-slice-write-s Inv-loop μ-loop
+slice-write-s c = search needs
+
+add-k : tie.Need-add-k Inv-loop μ-loop
+add-k c = search needs
+
+loop-less : tie.Need-loop-less Inv-loop μ-loop
+loop-less c = search needs
+
+loop-again : tie.Need-loop-again Inv-loop μ-loop
+loop-again c =
+    let l = c .before .before .loop in
+    let a = c .before .before .before .args in (
+      omega arith,
+      copied-more (a .s .now) (a .at) (a .t .now) 0 (l .k) (l .s)
+          (getD (a .t .now) (l .k) 0) (l .inv .1) (omega arith) (ap (λ (x : ℕ). getD (a .t .now) x 0) (omega arith)),
+    )
+
+same-length : tie.Need-same-length Inv-loop μ-loop
+same-length c = c .before .loop .inv .1 .long
+
+returns : tie.Need-returns Inv-loop μ-loop
+returns c =
+    let a = c .before .before .args in
+    let l = c .before .loop in
+    copied-end (a .s .now) (a .at) (a .t .now) 0 (l .k) (a .n) (l .s) (omega arith) (l .inv .1)
+
+pub copy-in-spec : {M : Type 1} → statement M
+copy-in-spec =
+    tie.close
+    (tie.spec Inv-loop μ-loop loop-holds shared-slice-read-s add-s slice-write-s add-k loop-less loop-again same-length returns)
