@@ -339,7 +339,7 @@ pub extern "C" fn c34_count(curve: &[u8], list: &[u8], kind: u32) -> i32
     let read = record::read_curve(curve);
     match read {
         CurveAnswer::Curve(e) => {
-            if 32768 < list.len() {
+            if list.len() > 32768 {
                 return -11;
             }
             let count = list_count(e, list, kind);
