@@ -106,6 +106,7 @@ fn written(x: Divisor, out: &mut [u8]) -> i32
     n as i32
 }
 
+// The sum of two divisors by value. k is the inverse of −1.
 fn sum_on(e: Equation, x: Divisor, y: Divisor) -> Divisor
     requires { ⌜ TwoAsked e x y ⌝ }
     ensures { λ r. ⌜ SumMade e x y r ⌝ }
@@ -115,6 +116,7 @@ fn sum_on(e: Equation, x: Divisor, y: Divisor) -> Divisor
     group::sum(e.p, k, &f, x, y)
 }
 
+// The negative of a divisor by value.
 fn negative_on(e: Equation, x: Divisor) -> Divisor
     requires { ⌜ OneAsked e x ⌝ }
     ensures { λ r. ⌜ NegativeMade e x r ⌝ }
@@ -145,6 +147,7 @@ fn size_of(n: i64) -> Whole
     }
 }
 
+// The multiple of a divisor by value by n.
 fn multiple_on(e: Equation, x: Divisor, n: i64) -> Divisor
     requires { ⌜ OneAsked e x ⌝ }
     ensures { λ r. ⌜ MultipleMade e x n r ⌝ }
