@@ -348,8 +348,8 @@ static void print_notes(void)
            "also those of two primality tests. The parts are free of it, but for a %d-th of it in list_sum per\n"
            "record and a 90-th in multiple. The zero class: a sum with it, of which a list and a multiple have\n"
            "one, is a general sum in C and a copy in the library. Compilers: the library is compiled through\n"
-           "LLVM, which takes a 32-bit division where the numbers allow it, as clang does and gcc does not; the\n"
-           "ratio to clang is the one that compares the programs.\n\n",
+           "LLVM, which among other things takes a 32-bit division where the numbers allow it, as clang does and\n"
+           "gcc does not; the ratio to clang is the one that compares the programs.\n\n",
            LISTED);
 }
 
