@@ -1,0 +1,3 @@
+-- That the functions on lists meet the relations of the code's contracts.
+pub mod Vector
+pub mod Triple

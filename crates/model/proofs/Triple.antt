@@ -1,0 +1,1 @@
+-- The functions on triples meet the relations of triple's contracts.

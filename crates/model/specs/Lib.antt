@@ -1,0 +1,3 @@
+-- The arithmetic core as functions on lists of numbers.
+pub mod Vector
+pub mod Triple
