@@ -1,5 +1,5 @@
 -- The functions on vectors meet the relations of vector's contracts, by the laws of the code's loops.
---   negative-is invert-is          −a and the inverse of a
+--   neg-is invert-is          −a and the inverse of a
 --   axpy-added clear-cleared scale-scaled make-monic-made shift-y-shifted
 --   times-y-is y-multiples-are times-is
 use mathlib.Core.Path.{_≡_, refl, _∙_, subst}
@@ -21,11 +21,11 @@ use Rattle.vector.proofs.Lead.{cleared, made-monic, already-monic}
 use Rattle.vector.proofs.ByY.{YPart, y-start, y-asked, y-more, y-end}
 use Rattle.vector.proofs.Powers.{y-rows}
 use Rattle.vector.proofs.Product.{TimesPart, part-start, part-asked, part-more, part-skip, part-end}
-use Rattle.model.specs.Vector.{negative, invert, axpy, axpy-at, clear, scale, scale-at, make-monic, make-monic-by, shift-y, shift-at, add-cube, add-cubes, times-y, y-multiples, y-multiples-by, times, times-at}
+use Rattle.model.specs.Vector.{neg, invert, axpy, axpy-at, clear, scale, scale-at, make-monic, make-monic-by, shift-y, shift-at, add-cube, add-cubes, times-y, y-multiples, y-multiples-by, times, times-at}
 
-pub negative-is : (p a : ℕ) → a < p → Is p (negative p a) (Z p .neg (el p a))
-unfolding negative
-negative-is p a h = record { below = mod-lt (p - a) {m = p} (omega arith); is = el-mod p (p - a) ∙ el-neg p a (omega arith) }
+pub neg-is : (p a : ℕ) → a < p → Is p (neg p a) (Z p .neg (el p a))
+unfolding neg
+neg-is p a h = record { below = mod-lt (p - a) {m = p} (omega arith); is = el-mod p (p - a) ∙ el-neg p a (omega arith) }
 
 pub invert-is : (p a : ℕ) → 0 < p → Is p (invert p a) (inverse p (el p a))
 unfolding invert
@@ -48,10 +48,10 @@ pub clear-cleared : {p n d : ℕ} {v b : List ℕ} → ClearAsked p v n b d → 
 unfolding clear
 clear-cleared {p} {n} {d} {v} {b} h = cleared h opposite (axpy-added asked)
   where
-    opposite : Is p (negative p (at v n)) (Z p .neg (el p (at v n)))
-    opposite = negative-is p (at v n) (h .v-vec .below n)
+    opposite : Is p (neg p (at v n)) (Z p .neg (el p (at v n)))
+    opposite = neg-is p (at v n) (h .v-vec .below n)
 
-    asked : AxpyAsked p v (negative p (at v n)) b (n - d) d
+    asked : AxpyAsked p v (neg p (at v n)) b (n - d) d
     asked = record { r-vec = h .v-vec; b-vec = h .b-vec; c-below = opposite .below; class = omega (arith, h .class, h .fits); room = omega (arith, h .fits, h .inside) }
 
 module _ {p c e : ℕ} {v : List ℕ} (h : ScaleAsked p v c e) where

@@ -1,6 +1,6 @@
 -- The functions of crate vector on lists of numbers; antt computes them. Each is named after its function there and takes the same arguments.
 -- Where the code leaves a step out because it adds zero, the model adds zero.
---   negative p a           −a modulo p
+--   neg p a           −a modulo p
 --   invert p a             the inverse of a modulo p, 0 for 0
 --   axpy p r c b s e       c·b[i] added at the place i + s, for each i below e
 --   clear p v n b d        v less the multiple of the monic b of degree d that takes v[n] away
@@ -19,8 +19,8 @@ use Rattle.field.specs.Residue.{el, num}
 use Rattle.field.specs.Inverse.{inverse}
 use Rattle.vector.specs.Vector.{at, row}
 
-unfoldable pub negative : (p a : ℕ) → ℕ
-negative p a = (p - a) % p
+unfoldable pub neg : (p a : ℕ) → ℕ
+neg p a = (p - a) % p
 
 unfoldable pub invert : (p a : ℕ) → ℕ
 invert p a = num p (inverse p (el p a))
@@ -34,7 +34,7 @@ axpy p r c b s zero = r
 axpy p r c b s (suc i) = axpy-at p c b s i (axpy p r c b s i)
 
 unfoldable pub clear : (p : ℕ) (v : List ℕ) (n : ℕ) (b : List ℕ) (d : ℕ) → List ℕ
-clear p v n b d = set (axpy p v (negative p (at v n)) b (n - d) d) n 0
+clear p v n b d = set (axpy p v (neg p (at v n)) b (n - d) d) n 0
 
 -- scale's turn at i
 unfoldable pub scale-at : (p c i : ℕ) → List ℕ → List ℕ
