@@ -3,3 +3,4 @@ pub mod Vector
 pub mod Triple
 pub mod Star
 pub mod Group
+pub mod Example

@@ -1,16 +1,18 @@
 -- The functions on vectors meet the relations of vector's contracts, by the laws of the code's loops.
---   neg-is invert-is          −a and the inverse of a
+--   neg-is invert-is               −a and the inverse of a
 --   axpy-added clear-cleared scale-scaled make-monic-made shift-y-shifted
 --   times-y-is y-multiples-are times-is
-use mathlib.Core.Path.{_≡_, refl, _∙_, subst}
+use mathlib.Core.Path.{_≡_, refl, sym, _∙_, ap, ap₂, subst}
 use mathlib.Core.List.{List}
 use Prim.Native.Nat.{ℕ, zero, suc, _+_, _*_, _-_, _/_, _%_, _≤_, _<_}
-use native.Mathlib.Nat.{mod-lt}
+use native.Mathlib.Nat.{mod-lt, div-add-mod, mul-le-mul}
 use native.Mathlib.Omega.{arith}
 use native.Mathlib.Decide.{ℕ-discrete, decLt}
 use Rattle.algebra.specs.Ring.{CommRing}
+use Rattle.prime.specs.Prime.{Prime}
 use Rattle.field.specs.Residue.{Z, el}
-use Rattle.field.specs.Element.{el-mod, el-neg, el-num, num-lt}
+use Rattle.field.specs.Element.{el-mod, el-mul, el-neg, el-one, el-self, el-rest, el-pos}
+use Rattle.field.specs.Field.{prime-large, prime-rest, inverse-unique}
 use Rattle.field.specs.Inverse.{inverse}
 use Rattle.field.specs.Contract.{Is}
 use Rattle.field.proofs.Products as P
@@ -21,15 +23,43 @@ use Rattle.vector.proofs.Lead.{cleared, made-monic, already-monic}
 use Rattle.vector.proofs.ByY.{YPart, y-start, y-asked, y-more, y-end}
 use Rattle.vector.proofs.Powers.{y-rows}
 use Rattle.vector.proofs.Product.{TimesPart, part-start, part-asked, part-more, part-skip, part-end}
-use Rattle.model.specs.Vector.{neg, invert, axpy, axpy-at, clear, scale, scale-at, make-monic, make-monic-by, shift-y, shift-at, add-cube, add-cubes, times-y, y-multiples, y-multiples-by, times, times-at}
+use Rattle.model.specs.Vector.{neg, invert, invert-by, axpy, axpy-at, clear, scale, scale-at, make-monic, make-monic-by, shift-y, shift-at, add-cube, add-cubes, times-y, y-multiples, y-multiples-by, times, times-at}
 
 pub neg-is : (p a : ℕ) → a < p → Is p (neg p a) (Z p .neg (el p a))
 unfolding neg
 neg-is p a h = record { below = mod-lt (p - a) {m = p} (omega arith); is = el-mod p (p - a) ∙ el-neg p a (omega arith) }
 
-pub invert-is : (p a : ℕ) → 0 < p → Is p (invert p a) (inverse p (el p a))
-unfolding invert
-invert-is p a h = record { below = num-lt p (inverse p (el p a)) h; is = el-num p (inverse p (el p a)) }
+module _ (p : ℕ) (h : Prime p) where
+  invert-below : (k n : ℕ) → invert-by p k n < p
+  unfolding invert-by
+  invert-below zero n = omega (arith, prime-large p h)
+  invert-below (suc k) zero = omega (arith, prime-large p h)
+  invert-below (suc k) (suc zero) = prime-large p h
+  invert-below (suc k) (suc (suc n)) = mod-lt (neg p (p / suc (suc n)) * invert-by p k (p % suc (suc n))) {m = p} (omega (arith, prime-large p h))
+
+  invert-mul : (k n : ℕ) → 0 < n → n ≤ k → n < p → Z p .mul (el p n) (el p (invert-by p k n)) ≡ Z p .one
+  unfolding invert-by
+  invert-mul zero n l b c = absurd (omega arith)
+  invert-mul (suc k) zero l b c = absurd (omega arith)
+  invert-mul (suc k) (suc zero) l b c = ap₂ (Z p .mul) (el-one p) (el-one p) ∙ Z p .mul-one _
+  invert-mul (suc k) (suc (suc n)) l b c =
+      ap (Z p .mul (el p m)) (el-mod p (neg p (p / m) * r) ∙ el-mul p (neg p (p / m)) r ∙ ap (λ u. Z p .mul u (el p r)) (neg-is p (p / m) (div-lt m (omega arith)) .is))
+      ∙ sym (Z p .mul-assoc _ _ _)
+      ∙ ap (λ u. Z p .mul u (el p r)) (el-rest p m (p / m) (p % m) (ap (el p) (div-add-mod p m) ∙ el-self p))
+      ∙ invert-mul k (p % m) (prime-rest p h m (omega arith) c) (omega (arith, mod-lt p {m = m} (omega arith))) (omega (arith, mod-lt p {m = m} (omega arith)))
+    where
+      m : ℕ
+      m = suc (suc n)
+
+      r : ℕ
+      r = invert-by p k (p % m)
+
+      div-lt : (m : ℕ) → 1 < m → p / m < p
+      div-lt m l = omega (arith, div-add-mod p m, mul-le-mul {n₁ = 2} {m₁ = p / m} {n₂ = m} {m₂ = p / m} l (omega arith), prime-large p h)
+
+  pub invert-is : (a : ℕ) → 0 < a → a < p → Is p (invert p a) (inverse p (el p a))
+  unfolding invert
+  invert-is a l b = record { below = invert-below a a; is = inverse-unique p h (el p a) (el p (invert-by p a a)) (el-pos p a l b) (invert-mul a a l (omega arith) b) }
 
 module _ {p c s e : ℕ} {r b : List ℕ} (h : AxpyAsked p r c b s e) where
   added-at : {r′ : List ℕ} (i : ℕ) → i < e → Added p r c b s i r′ → Added p r c b s (suc i) (axpy-at p c b s i r′)
@@ -74,7 +104,7 @@ module _ {p m : ℕ} {v : List ℕ} (h : MonicAsked p v m) where
   made-by (no e) = made-monic h inverted (scale-scaled asked)
     where
       inverted : Is p (invert p (at v m)) (inverse p (el p (at v m)))
-      inverted = invert-is p (at v m) (omega (arith, h .vec .below m))
+      inverted = invert-is p (h .prime) (at v m) (h .lead) (h .vec .below m)
 
       asked : ScaleAsked p v (invert p (at v m)) m
       asked = record { v-vec = h .vec; c-below = inverted .below; room = omega (arith, h .inside) }

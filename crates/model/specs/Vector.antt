@@ -1,7 +1,7 @@
 -- The functions of crate vector on lists of numbers; antt computes them. Each is named after its function there and takes the same arguments.
 -- Where the code leaves a step out because it adds zero, the model adds zero.
---   neg p a           −a modulo p
---   invert p a             the inverse of a modulo p, 0 for 0
+--   neg p a                −a modulo p
+--   invert p a             the inverse of a modulo the prime p, by division with rest; 0 for 0
 --   axpy p r c b s e       c·b[i] added at the place i + s, for each i below e
 --   clear p v n b d        v less the multiple of the monic b of degree d that takes v[n] away
 --   scale p v c e          c·v[i] at the place i, for each i below e
@@ -15,15 +15,20 @@ use mathlib.Core.List.{List, [], _∷_}
 use Prim.Native.Nat.{ℕ, zero, suc, _+_, _*_, _-_, _/_, _%_, _<_}
 use native.Mathlib.Decide.{ℕ-discrete, decLt}
 use lib.ListN.{set, replicate}
-use Rattle.field.specs.Residue.{el, num}
-use Rattle.field.specs.Inverse.{inverse}
 use Rattle.vector.specs.Vector.{at, row}
 
 unfoldable pub neg : (p a : ℕ) → ℕ
 neg p a = (p - a) % p
 
+-- with p = q·n + r the inverse of n is −q times that of r; k bounds the number of steps
+unfoldable pub invert-by : (p k n : ℕ) → ℕ
+invert-by p zero n = 0
+invert-by p (suc k) zero = 0
+invert-by p (suc k) (suc zero) = 1
+invert-by p (suc k) (suc (suc n)) = neg p (p / suc (suc n)) * invert-by p k (p % suc (suc n)) % p
+
 unfoldable pub invert : (p a : ℕ) → ℕ
-invert p a = num p (inverse p (el p a))
+invert p a = invert-by p a a
 
 -- axpy's turn at i
 unfoldable pub axpy-at : (p c : ℕ) (b : List ℕ) (s i : ℕ) → List ℕ → List ℕ
