@@ -4,8 +4,10 @@
 --   reduce-rest            reduce
 --   put-products-put       put-products
 --   product-multiplied     product
+--   closed-tests           closed
 use mathlib.Core.Path.{_≡_, refl, subst}
 use mathlib.Core.Logic.{_⊎_, inl, inr}
+use mathlib.Core.Bool.{Bool, true, false}
 use mathlib.Core.List.{List}
 use Prim.Native.Nat.{ℕ, zero, suc, _+_, _-_, _%_, _≤_, _<_}
 use native.Mathlib.Omega.{arith}
@@ -13,15 +15,15 @@ use native.Mathlib.Decide.{ℕ-discrete, decLt}
 use lib.ListN.{set}
 use Rattle.field.specs.Inverse.{lt-of-ne}
 use Rattle.vector.specs.Vector.{at, row, width}
-use Rattle.vector.specs.Contract.{MadeMonic, YMultiples}
-use Rattle.triple.specs.Contract.{TurnAsked, Turned, InsertAsked, Inserted, ReduceAsked, Rest, PutAsked, Put, ProductAsked, Multiplied, degrees}
+use Rattle.vector.specs.Contract.{MadeMonic, TimesY, YMultiples}
+use Rattle.triple.specs.Contract.{TurnAsked, Turned, InsertAsked, Inserted, ReduceAsked, Rest, PutAsked, Put, ProductAsked, Multiplied, ClosedAsked, ClosedTest, AtAsked, AtTest, degrees}
 use Rattle.triple.proofs.Turns.{turn-none, clear-asked, turn-clear, monic-asked, swap-asked, turn-swap, turn-fill}
 use Rattle.triple.proofs.Insertion.{Inserting, insert-start, insert-asked, insert-more, insert-end}
-use Rattle.triple.proofs.Reduction.{Reducing, reduce-start, reduce-asked, reduce-clear, reduce-skip, reduce-end}
+use Rattle.triple.proofs.Reduction.{Reducing, reduce-start, reduce-asked, reduce-clear, reduce-skip, reduce-end, at-times-asked, at-reduce-asked, at-test, Closing, closed-start, closed-more, closed-stop, closed-end}
 use Rattle.triple.proofs.Products.{Putting, put-start, times-asked, put-asked, put-more, put-end, Multiplying, multiply-start, multiples-asked, products-asked, multiply-more, multiply-end}
-use Rattle.model.specs.Vector.{make-monic, y-multiples}
-use Rattle.model.specs.Triple.{Members, State, swap, turn-by, turn, insert-at, turns, members, insert, reduce-at, reduce, put-at, put-upto, put-products, product-upto, product}
-use Rattle.model.proofs.Vector.{clear-cleared, make-monic-made, y-multiples-are, times-is}
+use Rattle.model.specs.Vector.{make-monic, times-y, y-multiples}
+use Rattle.model.specs.Triple.{Members, State, swap, turn-by, turn, insert-at, turns, members, insert, reduce-at, reduce, put-at, put-upto, put-products, product-upto, product, closed-at, both, closed-from, closed}
+use Rattle.model.proofs.Vector.{clear-cleared, make-monic-made, times-y-is, y-multiples-are, times-is, is-zero-tests}
 
 -- what a turn leaves, as a state
 abbrev TurnedTo : (p : ℕ) (t : List (List ℕ)) (d v : List ℕ) (m : ℕ) → State → Type 0
@@ -131,3 +133,28 @@ module _ {p : ℕ} {f : List ℕ} {t₁ : List (List ℕ)} {d₁ : List ℕ} {t�
   pub product-multiplied : Multiplied p f t₁ t₂ (product p f t₁ d₁ t₂ d₂ .rows) (product p f t₁ d₁ t₂ d₂ .leads)
   unfolding product
   product-multiplied = multiply-end h (multiplying 3 (omega arith)) (omega arith)
+
+closed-at-tests : {p j : ℕ} {f : List ℕ} {t : List (List ℕ)} {d : List ℕ} → AtAsked p f t d j → AtTest p f t d j (closed-at p f t d j)
+unfolding closed-at
+closed-at-tests {p} {j} {f} {t} {d} h = at-test t j product rest (h .inside) (is-zero-tests _ (rest .vec .len))
+  where
+    product : TimesY p f (row t j) (at d j + 1) (times-y p f (row t j) (at d j + 1))
+    product = times-y-is (at-times-asked h)
+
+    rest : Rest p t d (times-y p f (row t j) (at d j + 1)) (reduce p t d (times-y p f (row t j) (at d j + 1)) (at d j + 5))
+    rest = reduce-rest (at-reduce-asked h product)
+
+module _ {p : ℕ} {f : List ℕ} {t : List (List ℕ)} {d : List ℕ} where
+  closing-at : {j : ℕ} → Closing p f t d j → (a b : Bool) → AtTest p f t d j a → (Closing p f t d (j + 1) → ClosedTest p f t d b) → ClosedTest p f t d (both a b)
+  unfolding both
+  closing-at c true b q r = r (closed-more c q refl)
+  closing-at c false b q r = closed-stop c q refl
+
+  closing : (i j : ℕ) → i + j ≡ 3 → Closing p f t d j → ClosedTest p f t d (closed-from p f t d i j)
+  unfolding closed-from
+  closing zero j e c = closed-end c (omega arith)
+  closing (suc i) j e c = closing-at c (closed-at p f t d j) (closed-from p f t d i (j + 1)) (closed-at-tests (record { closed = c .asked; inside = omega arith })) (closing i (j + 1) (omega arith))
+
+  pub closed-tests : ClosedAsked p f t d → ClosedTest p f t d (closed p f t d)
+  unfolding closed
+  closed-tests h = closing 3 0 refl (closed-start h)

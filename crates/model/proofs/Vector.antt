@@ -1,29 +1,31 @@
 -- The functions on vectors meet the relations of vector's contracts, by the laws of the code's loops.
 --   neg-is invert-is               −a and the inverse of a
 --   axpy-added clear-cleared scale-scaled make-monic-made shift-y-shifted
---   times-y-is y-multiples-are times-is
+--   times-y-is y-multiples-are times-is is-zero-tests
 use mathlib.Core.Path.{_≡_, refl, sym, _∙_, ap, ap₂, subst}
+use mathlib.Core.Bool.{Bool, true, false}
 use mathlib.Core.List.{List}
 use Prim.Native.Nat.{ℕ, zero, suc, _+_, _*_, _-_, _/_, _%_, _≤_, _<_}
 use native.Mathlib.Nat.{mod-lt, div-add-mod, mul-le-mul}
 use native.Mathlib.Omega.{arith}
 use native.Mathlib.Decide.{ℕ-discrete, decLt}
+use lib.ListN.{length}
 use Rattle.algebra.specs.Ring.{CommRing}
 use Rattle.prime.specs.Prime.{Prime}
 use Rattle.field.specs.Residue.{Z, el}
 use Rattle.field.specs.Element.{el-mod, el-mul, el-neg, el-one, el-self, el-rest, el-pos}
 use Rattle.field.specs.Field.{prime-large, prime-rest, inverse-unique}
-use Rattle.field.specs.Inverse.{inverse}
+use Rattle.field.specs.Inverse.{inverse, lt-of-ne}
 use Rattle.field.specs.Contract.{Is}
 use Rattle.field.proofs.Products as P
 use Rattle.vector.specs.Vector.{at, row, width}
-use Rattle.vector.specs.Contract.{AxpyAsked, Added, ClearAsked, Cleared, ScaleAsked, Scaled, MonicAsked, MadeMonic, ShiftAsked, Shifted, TimesYAsked, TimesY, YMultiplesAsked, YMultiples, TimesAsked, Times}
-use Rattle.vector.proofs.Loop.{added-start, added-more, added-end, scaled-start, scaled-more, scaled-end, shifted-start, shifted-more, shifted-skip, shifted-end}
+use Rattle.vector.specs.Contract.{AxpyAsked, Added, ClearAsked, Cleared, ScaleAsked, Scaled, MonicAsked, MadeMonic, ShiftAsked, Shifted, TimesYAsked, TimesY, YMultiplesAsked, YMultiples, TimesAsked, Times, ZeroTest}
+use Rattle.vector.proofs.Loop.{added-start, added-more, added-end, scaled-start, scaled-more, scaled-end, shifted-start, shifted-more, shifted-skip, shifted-end, seen-more, zero-test-true}
 use Rattle.vector.proofs.Lead.{cleared, made-monic, already-monic}
 use Rattle.vector.proofs.ByY.{YPart, y-start, y-asked, y-more, y-end}
 use Rattle.vector.proofs.Powers.{y-rows}
 use Rattle.vector.proofs.Product.{TimesPart, part-start, part-asked, part-more, part-skip, part-end}
-use Rattle.model.specs.Vector.{neg, invert, invert-by, axpy, axpy-at, clear, scale, scale-at, make-monic, make-monic-by, shift-y, shift-at, add-cube, add-cubes, times-y, y-multiples, y-multiples-by, times, times-at}
+use Rattle.model.specs.Vector.{neg, invert, invert-by, axpy, axpy-at, clear, scale, scale-at, make-monic, make-monic-by, shift-y, shift-at, add-cube, add-cubes, times-y, y-multiples, y-multiples-by, times, times-at, zero-by, zero-upto, is-zero}
 
 pub neg-is : (p a : ℕ) → a < p → Is p (neg p a) (Z p .neg (el p a))
 unfolding neg
@@ -168,3 +170,23 @@ module _ {p e top : ℕ} {b : List ℕ} {ys : List (List ℕ)} (h : TimesAsked p
 
   pub times-is : Times p b e ys top (times p b e ys top)
   times-is = part-end h (part-upto e (omega arith)) refl
+
+-- what the test of the numbers below i says
+record ZeroBelow (v : List ℕ) (i : ℕ) (b : Bool) : Type 0 where
+  all : b ≡ true → (k : ℕ) → k < i → at v k ≡ 0
+  some : b ≡ false → (n : ℕ) × (n < width) × (0 < at v n)
+
+module _ (v : List ℕ) where
+  zero-at : (i : ℕ) → i < width → {b : Bool} → ZeroBelow v i b → (d : Dec (at v i ≡ 0)) → ZeroBelow v (suc i) (zero-by v i d b)
+  unfolding zero-by
+  zero-at i l q (yes e) = record { all = λ t k m. seen-more v i (q .all t) e k (omega arith); some = q .some }
+  zero-at i l q (no e) = record { all = λ t. let z : _≡_ {A = ℕ} 0 1 = cc in absurd (omega arith); some = λ t. (i, l, lt-of-ne (at v i) e) }
+
+  zero-below : (i : ℕ) → i ≤ width → ZeroBelow v i (zero-upto v i)
+  unfolding zero-upto
+  zero-below zero l = record { all = λ t k m. absurd (omega arith); some = λ t. let z : _≡_ {A = ℕ} 0 1 = cc in absurd (omega arith) }
+  zero-below (suc i) l = zero-at i (omega arith) (zero-below i (omega arith)) (ℕ-discrete (at v i) 0)
+
+  pub is-zero-tests : length v ≡ width → ZeroTest v (is-zero v)
+  unfolding is-zero
+  is-zero-tests l = record { zero-vector = λ t. zero-test-true v 26 (omega arith) (zero-below 26 (omega arith) .all t) .zero-vector refl; nonzero = zero-below 26 (omega arith) .some }

@@ -3,14 +3,18 @@
 --   negative p k f a       I*, for the ideal I of a
 --   product-star p k f a b J*, for the product J of the ideals of a and b
 --   sum p k f a b          the reduced ideal of the product
+--   is-basis p f r         is the record a basis?
+--   multiple p k f a m     the multiple of a by m, by doubling and adding
 use mathlib.Core.Path.{_≡_}
+use mathlib.Core.Bool.{Bool}
 use mathlib.Core.List.{List}
-use Prim.Native.Nat.{ℕ}
+use Prim.Native.Nat.{ℕ, zero, suc, _/_, _%_}
 use native.Mathlib.Decide.{ℕ-discrete}
 use Rattle.divisor.specs.Kind.{Kind, k0, k11, k21, k22, k31}
 use Rattle.basis.specs.declared.Divisor.{Divisor}
 use Rattle.basis.specs.Contract.{vectors, degrees}
-use Rattle.model.specs.Triple.{Members, product}
+use Rattle.star.specs.Contract.{divisor-0}
+use Rattle.model.specs.Triple.{Members, product, closed}
 use Rattle.model.specs.Star.{star}
 
 unfoldable pub members-of : Kind → Divisor → Members
@@ -47,3 +51,25 @@ sum-by p k f a b (no e) (no c) = negative p k f (product-star p k f a b)
 
 unfoldable pub sum : (p k : ℕ) (f : List ℕ) (a b : Divisor) → Divisor
 sum p k f a b = sum-by p k f a b (ℕ-discrete (a .kind) 0) (ℕ-discrete (b .kind) 0)
+
+unfoldable pub is-basis : (p : ℕ) (f : List ℕ) (r : Divisor) → Bool
+is-basis p f r = closed p f (triple-of r .rows) (triple-of r .leads)
+
+-- r, with b added where n is odd
+unfoldable pub add-odd : (p k : ℕ) (f : List ℕ) (r b : Divisor) (n : ℕ) → Dec (n % 2 ≡ 1) → Divisor
+add-odd p k f r b n (yes e) = sum p k f r b
+add-odd p k f r b n (no e) = r
+
+-- b doubled, unless n is 0
+unfoldable pub double-some : (p k : ℕ) (f : List ℕ) (b : Divisor) (n : ℕ) → Dec (n ≡ 0) → Divisor
+double-some p k f b n (yes e) = b
+double-some p k f b n (no e) = sum p k f b b
+
+-- r and n times b, in at most g turns
+unfoldable pub multiple-from : (p k : ℕ) (f : List ℕ) (g : ℕ) (r b : Divisor) (n : ℕ) → Divisor
+multiple-from p k f zero r b n = r
+multiple-from p k f (suc g) r b zero = r
+multiple-from p k f (suc g) r b (suc n) = multiple-from p k f g (add-odd p k f r b (suc n) (ℕ-discrete (suc n % 2) 1)) (double-some p k f b (suc n / 2) (ℕ-discrete (suc n / 2) 0)) (suc n / 2)
+
+unfoldable pub multiple : (p k : ℕ) (f : List ℕ) (a : Divisor) (m : ℕ) → Divisor
+multiple p k f a m = multiple-from p k f m divisor-0 a m

@@ -4,16 +4,18 @@
 --   turn p t d v m         one turn of insert, for v below m + 1
 --   insert p t d v top     v, which is below top, put into the triple
 --   reduce p t d v top     v less a member of the span, with no coefficient left at a lead
+--   closed p f t d         is the span closed under y?
 --   put-products p t₁ d₁ ys top g   the products of the members of t₁ with an element, of which ys are the y-multiples, put into g
 --   product p f t₁ d₁ t₂ d₂         the triple of the product of two triples' spans
 use mathlib.Core.Path.{_≡_}
+use mathlib.Core.Bool.{Bool, true, false}
 use mathlib.Core.List.{List}
 use Prim.Native.Nat.{ℕ, zero, suc, _+_, _%_, _<_}
 use native.Mathlib.Decide.{ℕ-discrete, decLt}
 use lib.ListN.{set, replicate}
 use Rattle.vector.specs.Vector.{at, row, width}
 use Rattle.triple.specs.Contract.{degrees}
-use Rattle.model.specs.Vector.{clear, make-monic, y-multiples, times}
+use Rattle.model.specs.Vector.{clear, make-monic, times-y, y-multiples, times, is-zero}
 
 pub record Members : Type 0 where
   pub rows : List (List ℕ)
@@ -86,3 +88,19 @@ product-upto p f t₁ d₁ t₂ d₂ (suc j) = put-products p t₁ d₁ (y-multi
 
 unfoldable pub product : (p : ℕ) (f : List ℕ) (t₁ : List (List ℕ)) (d₁ : List ℕ) (t₂ : List (List ℕ)) (d₂ : List ℕ) → Members
 product p f t₁ d₁ t₂ d₂ = product-upto p f t₁ d₁ t₂ d₂ 3
+
+-- is y times the j-th member in the span?
+unfoldable pub closed-at : (p : ℕ) (f : List ℕ) (t : List (List ℕ)) (d : List ℕ) (j : ℕ) → Bool
+closed-at p f t d j = is-zero (reduce p t d (times-y p f (row t j) (at d j + 1)) (at d j + 5))
+
+unfoldable pub both : Bool → Bool → Bool
+both true b = b
+both false b = false
+
+-- … for i members from the j-th on
+unfoldable pub closed-from : (p : ℕ) (f : List ℕ) (t : List (List ℕ)) (d : List ℕ) (i j : ℕ) → Bool
+closed-from p f t d zero j = true
+closed-from p f t d (suc i) j = both (closed-at p f t d j) (closed-from p f t d i (j + 1))
+
+unfoldable pub closed : (p : ℕ) (f : List ℕ) (t : List (List ℕ)) (d : List ℕ) → Bool
+closed p f t d = closed-from p f t d 3 0

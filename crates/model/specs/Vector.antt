@@ -10,7 +10,9 @@
 --   times-y p f v top      y·v for v below top, where f is y³
 --   y-multiples p f v top  v, y·v and y²·v
 --   times p b e ys top     b·g for b below e, from the vectors g, y·g and y²·g
+--   is-zero v              is v zero?
 use mathlib.Core.Path.{_≡_}
+use mathlib.Core.Bool.{Bool, true, false}
 use mathlib.Core.List.{List, [], _∷_}
 use Prim.Native.Nat.{ℕ, zero, suc, _+_, _*_, _-_, _/_, _%_, _<_}
 use native.Mathlib.Decide.{ℕ-discrete, decLt}
@@ -93,3 +95,15 @@ times-at p b ys top n (no l) r = axpy p r (at b n) (row ys (n % 3)) (n - 4 * (n 
 unfoldable pub times : (p : ℕ) (b : List ℕ) (e : ℕ) (ys : List (List ℕ)) (top : ℕ) → List ℕ
 times p b zero ys top = replicate 26 0
 times p b (suc n) ys top = times-at p b ys top n (decLt n (4 * (n % 3))) (times p b n ys top)
+
+-- are the numbers below i zero? by the test of the last one
+unfoldable pub zero-by : (v : List ℕ) (i : ℕ) → Dec (at v i ≡ 0) → Bool → Bool
+zero-by v i (yes e) b = b
+zero-by v i (no e) b = false
+
+unfoldable pub zero-upto : (v : List ℕ) (i : ℕ) → Bool
+zero-upto v zero = true
+zero-upto v (suc i) = zero-by v i (ℕ-discrete (at v i) 0) (zero-upto v i)
+
+unfoldable pub is-zero : List ℕ → Bool
+is-zero v = zero-upto v 26
