@@ -5,24 +5,27 @@
 --   put-products-put       put-products
 --   product-multiplied     product
 --   closed-tests           closed
+--   whole-tests            whole
+--   insert-all-inserted    insert-all
 use mathlib.Core.Path.{_≡_, refl, subst}
 use mathlib.Core.Logic.{_⊎_, inl, inr}
 use mathlib.Core.Bool.{Bool, true, false}
 use mathlib.Core.List.{List}
-use Prim.Native.Nat.{ℕ, zero, suc, _+_, _-_, _%_, _≤_, _<_}
+use Prim.Native.Nat.{ℕ, zero, suc, _+_, _*_, _-_, _%_, _≤_, _<_}
 use native.Mathlib.Omega.{arith}
 use native.Mathlib.Decide.{ℕ-discrete, decLt}
 use lib.ListN.{set}
 use Rattle.field.specs.Inverse.{lt-of-ne}
 use Rattle.vector.specs.Vector.{at, row, width}
 use Rattle.vector.specs.Contract.{MadeMonic, TimesY, YMultiples}
-use Rattle.triple.specs.Contract.{TurnAsked, Turned, InsertAsked, Inserted, ReduceAsked, Rest, PutAsked, Put, ProductAsked, Multiplied, ClosedAsked, ClosedTest, AtAsked, AtTest, degrees}
+use Rattle.triple.specs.Contract.{TurnAsked, Turned, InsertAsked, Inserted, ReduceAsked, Rest, PutAsked, Put, ProductAsked, Multiplied, ClosedAsked, ClosedTest, AtAsked, AtTest, AllAsked, AllInserted, WholeTest, degrees}
 use Rattle.triple.proofs.Turns.{turn-none, clear-asked, turn-clear, monic-asked, swap-asked, turn-swap, turn-fill}
 use Rattle.triple.proofs.Insertion.{Inserting, insert-start, insert-asked, insert-more, insert-end}
 use Rattle.triple.proofs.Reduction.{Reducing, reduce-start, reduce-asked, reduce-clear, reduce-skip, reduce-end, at-times-asked, at-reduce-asked, at-test, Closing, closed-start, closed-more, closed-stop, closed-end}
+use Rattle.triple.proofs.Filling.{Filling, whole-no, whole-last, fill-start, fill-asked, fill-more, fill-end, fill-stop}
 use Rattle.triple.proofs.Products.{Putting, put-start, times-asked, put-asked, put-more, put-end, Multiplying, multiply-start, multiples-asked, products-asked, multiply-more, multiply-end}
 use Rattle.model.specs.Vector.{make-monic, times-y, y-multiples}
-use Rattle.model.specs.Triple.{Members, State, swap, turn-by, turn, insert-at, turns, members, insert, reduce-at, reduce, put-at, put-upto, put-products, product-upto, product, closed-at, both, closed-from, closed}
+use Rattle.model.specs.Triple.{Members, State, swap, turn-by, turn, insert-at, turns, members, insert, reduce-at, reduce, put-at, put-upto, put-products, product-upto, product, closed-at, both, closed-from, closed, whole-by, whole, stop-if, insert-from, insert-all}
 use Rattle.model.proofs.Vector.{clear-cleared, make-monic-made, times-y-is, y-multiples-are, times-is, is-zero-tests}
 
 -- what a turn leaves, as a state
@@ -158,3 +161,28 @@ module _ {p : ℕ} {f : List ℕ} {t : List (List ℕ)} {d : List ℕ} where
   pub closed-tests : ClosedAsked p f t d → ClosedTest p f t d (closed p f t d)
   unfolding closed
   closed-tests h = closing 3 0 refl (closed-start h)
+
+whole-at : (d : List ℕ) (a : Dec (at d 0 ≡ 0)) (b : Dec (at d 1 ≡ 4)) → WholeTest d (whole-by d a b)
+unfolding whole-by
+whole-at d (yes a) (yes b) = whole-last d a b
+whole-at d (yes a) (no b) = whole-no d (λ w. b (w .first))
+whole-at d (no a) b = whole-no d (λ w. a (w .zeroth))
+
+pub whole-tests : (d : List ℕ) → WholeTest d (whole d)
+unfolding whole
+whole-tests d = whole-at d (ℕ-discrete (at d 0) 0) (ℕ-discrete (at d 1) 4)
+
+module _ {p top : ℕ} {t : List (List ℕ)} {d : List ℕ} {ys : List (List ℕ)} (h : AllAsked p t d ys top) where
+  stopped : {j : ℕ} (b : Bool) (g r : Members) → WholeTest (g .leads) b → Filling p t ys (g .rows) (g .leads) j → AllInserted p t d ys (r .rows) (r .leads) → AllInserted p t d ys (stop-if b g r .rows) (stop-if b g r .leads)
+  unfolding stop-if
+  stopped true g r w q a = fill-stop h q (w .yes-whole refl)
+  stopped false g r w q a = a
+
+  filling : (i j : ℕ) → i + j ≡ 3 → (g : Members) → Filling p t ys (g .rows) (g .leads) j → AllInserted p t d ys (insert-from p ys top i j g .rows) (insert-from p ys top i j g .leads)
+  unfolding insert-from
+  filling zero j e g q = fill-end h q (omega arith)
+  filling (suc i) j e g q = stopped (whole (g .leads)) g (insert-from p ys top i (j + 1) (insert p (g .rows) (g .leads) (row ys j) (top + 4 * j))) (whole-tests (g .leads)) q (filling i (j + 1) (omega arith) (insert p (g .rows) (g .leads) (row ys j) (top + 4 * j)) (fill-more h q (omega arith) (insert-inserted p (g .rows) (g .leads) (row ys j) (top + 4 * j) (fill-asked h q (omega arith)))))
+
+pub insert-all-inserted : {p top : ℕ} {ys : List (List ℕ)} (g : Members) → AllAsked p (g .rows) (g .leads) ys top → AllInserted p (g .rows) (g .leads) ys (insert-all p ys top g .rows) (insert-all p ys top g .leads)
+unfolding insert-all
+insert-all-inserted g h = filling h 3 0 refl g (fill-start h)

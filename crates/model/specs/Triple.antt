@@ -5,14 +5,17 @@
 --   insert p t d v top     v, which is below top, put into the triple
 --   reduce p t d v top     v less a member of the span, with no coefficient left at a lead
 --   closed p f t d         is the span closed under y?
+--   whole d                are the degrees those of the whole ring?
+--   insert-all p ys top g  the three vectors ys put into g, until it is the triple of the whole ring
 --   put-products p t₁ d₁ ys top g   the products of the members of t₁ with an element, of which ys are the y-multiples, put into g
 --   product p f t₁ d₁ t₂ d₂         the triple of the product of two triples' spans
 use mathlib.Core.Path.{_≡_}
 use mathlib.Core.Bool.{Bool, true, false}
 use mathlib.Core.List.{List}
-use Prim.Native.Nat.{ℕ, zero, suc, _+_, _%_, _<_}
+use Prim.Native.Nat.{ℕ, zero, suc, _+_, _*_, _%_, _<_}
 use native.Mathlib.Decide.{ℕ-discrete, decLt}
 use lib.ListN.{set, replicate}
+use lib.Dec.{eqb}
 use Rattle.vector.specs.Vector.{at, row, width}
 use Rattle.triple.specs.Contract.{degrees}
 use Rattle.model.specs.Vector.{clear, make-monic, times-y, y-multiples, times, is-zero}
@@ -104,3 +107,25 @@ closed-from p f t d (suc i) j = both (closed-at p f t d j) (closed-from p f t d 
 
 unfoldable pub closed : (p : ℕ) (f : List ℕ) (t : List (List ℕ)) (d : List ℕ) → Bool
 closed p f t d = closed-from p f t d 3 0
+
+-- are the degrees those of the whole ring? by the tests of the first two
+unfoldable pub whole-by : (d : List ℕ) → Dec (at d 0 ≡ 0) → Dec (at d 1 ≡ 4) → Bool
+whole-by d (yes a) (yes b) = eqb (at d 2) 8
+whole-by d (yes a) (no b) = false
+whole-by d (no a) b = false
+
+unfoldable pub whole : List ℕ → Bool
+whole d = whole-by d (ℕ-discrete (at d 0) 0) (ℕ-discrete (at d 1) 4)
+
+-- g if the test says so, and else h
+unfoldable pub stop-if : Bool → Members → Members → Members
+stop-if true g h = g
+stop-if false g h = h
+
+-- i of the vectors ys, from the j-th on
+unfoldable pub insert-from : (p : ℕ) (ys : List (List ℕ)) (top i j : ℕ) → Members → Members
+insert-from p ys top zero j g = g
+insert-from p ys top (suc i) j g = stop-if (whole (g .leads)) g (insert-from p ys top i (j + 1) (insert p (g .rows) (g .leads) (row ys j) (top + 4 * j)))
+
+unfoldable pub insert-all : (p : ℕ) (ys : List (List ℕ)) (top : ℕ) → Members → Members
+insert-all p ys top g = insert-from p ys top 3 0 g
