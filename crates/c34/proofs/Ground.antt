@@ -35,7 +35,6 @@ use Rattle.record.specs.Reading.{equation-value, OnCurve}
 use Rattle.record.specs.Value.{bytes-of}
 use Rattle.record.proofs.CurveReader.{curve-value, on-curve}
 use Rattle.calls.specs.Class.{Ring, Record, Ideal, poles-on, IsSum, IsNegative, IsListSum}
-use Rattle.calls.proofs.Class.{any-reduced, any-star}
 use Rattle.calls.proofs.Values.{star-same, reduced-same, ValueIdeal, value-record, value-ideal}
 use Rattle.calls.proofs.Multiples.{Stands, class-list}
 use Rattle.c34.specs.Part.{On, GivenOn, Curved, OneAsked, TwoAsked, SumMade, NegativeMade, TimesMade}
@@ -113,8 +112,12 @@ module _ (c : List ℕ) (A : AcceptedCurve c) {f : List ℕ} {k : ℕ} (cu : IsC
       go (D, h) = (
         bytes-of (D .kind) r,
         subst (λ (s : List ℕ). IsNegative c s (bytes-of (D .kind) r)) (g .bytes)
-            (any-star c A (bytes-of (g .kind) x) (bytes-of (D .kind) r) (value-record c A (D .kind) r (D .based))
-            (star-same (poles-on c A) (value-ideal c A (g .kind) x (g .based .shaped)) (value-ideal c A (D .kind) r (D .based .shaped)) h)),
+            (record {
+              curve = A;
+              accepted = value-record c A (D .kind) r (D .based);
+              star =
+                  star-same (poles-on c A) (value-ideal c A (g .kind) x (g .based .shaped)) (value-ideal c A (D .kind) r (D .based .shaped)) h;
+            }),
         given D,
       )
 
@@ -128,10 +131,14 @@ module _ (c : List ℕ) (A : AcceptedCurve c) {f : List ℕ} {k : ℕ} (cu : IsC
       go (D, h) = (
         bytes-of (D .kind) r,
         subst₂ (λ (s t : List ℕ). IsSum c s t (bytes-of (D .kind) r)) (g .bytes) (g′ .bytes)
-            (any-reduced c A (bytes-of (D .kind) r) (value-record c A (D .kind) r (D .based))
-            (reduced-same (poles-on c A)
-            (product-same (Ring c) (value-ideal c A (g .kind) x (g .based .shaped)) (value-ideal c A (g′ .kind) y (g′ .based .shaped)))
-            (value-ideal c A (D .kind) r (D .based .shaped)) h)),
+            (record {
+              curve = A;
+              accepted = value-record c A (D .kind) r (D .based);
+              reduced =
+                  reduced-same (poles-on c A)
+                  (product-same (Ring c) (value-ideal c A (g .kind) x (g .based .shaped)) (value-ideal c A (g′ .kind) y (g′ .based .shaped)))
+                  (value-ideal c A (D .kind) r (D .based .shaped)) h;
+            }),
         given D,
       )
 

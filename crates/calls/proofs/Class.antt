@@ -6,7 +6,7 @@
 --   class-reduced          a record whose ideal is equivalent to J is the record of the reduced ideal of J
 --   reduced-class          … and back, for a based ideal J with a nonzero element
 --   poles-same             the pole numbers do not depend on how the curve was accepted
---   any-reduced, any-star  … so reduced ideals and stars for one proof of that are the results for each
+--   reduced-on, star-on    … so reduced ideals and stars for one proof of that are those for each
 --   zero-accepted, zero-ideal, zero-reduced    the zero record: its ideal is the whole ring
 --   record-same            two records with the same ideal are the same
 --   class-same             … and so are two with equivalent ideals
@@ -77,20 +77,20 @@ module _ (c : List ℕ) (A : AcceptedCurve c) where
   all-ideals [] a = tt
   all-ideals (r ∷ rs) a = (accepted-ideal r (a .0), all-ideals rs (a .1))
 
-pub class-reduced : (c : List ℕ) {J : Ring c .Car → Type 0} (w : List ℕ) → Record c w → Equivalent (Ring c) J (Ideal c w) → ReducedOf c J w
-class-reduced c w r e = (r, λ A. equivalent-reduced (poles-on c A) (accepted-footprint c A w (r .1)) e)
-
 pub poles-same : (c : List ℕ) (A A′ : AcceptedCurve c) → poles-on c A ≡ poles-on c A′
 poles-same c A A′ =
     ap (λ (q : Prime (modulus c)). poles (F (modulus c) q) (equation c) (F (modulus c) q .nontrivial))
     (prime-prop (modulus c) (A .1 .1 .1 .0 .0) (A′ .1 .1 .1 .0 .0))
 
 module _ (c : List ℕ) (A : AcceptedCurve c) where
-  pub any-reduced : {J : Ring c .Car → Type 0} (w : List ℕ) → Record c w → IsReduced (poles-on c A) J (Ideal c w) → ReducedOf c J w
-  any-reduced {J} w r h = (r, λ A′. subst (λ (Q : Poles (Ring c)). IsReduced Q J (Ideal c w)) (poles-same c A A′) h)
+  pub class-reduced : {J : Ring c .Car → Type 0} (w : List ℕ) → Record c w → Equivalent (Ring c) J (Ideal c w) → ReducedOf c J w
+  class-reduced w r e = record { curve = A; accepted = r; reduced = equivalent-reduced (poles-on c A) (accepted-footprint c A w (r .1)) e }
 
-  pub any-star : (a w : List ℕ) → Record c w → IsStar (poles-on c A) (Ideal c a) (Ideal c w) → IsNegative c a w
-  any-star a w r h = (r, λ A′. subst (λ (Q : Poles (Ring c)). IsStar Q (Ideal c a) (Ideal c w)) (poles-same c A A′) h)
+  pub reduced-on : {J : Ring c .Car → Type 0} (w : List ℕ) → ReducedOf c J w → IsReduced (poles-on c A) J (Ideal c w)
+  reduced-on {J} w h = subst (λ (Q : Poles (Ring c)). IsReduced Q J (Ideal c w)) (poles-same c (h .curve) A) (h .reduced)
+
+  pub star-on : (a w : List ℕ) → IsNegative c a w → IsStar (poles-on c A) (Ideal c a) (Ideal c w)
+  star-on a w h = subst (λ (Q : Poles (Ring c)). IsStar Q (Ideal c a) (Ideal c w)) (poles-same c (h .curve) A) (h .star)
 
 module _ (c : List ℕ) where
   -- The zero record has the one polynomial 1, and no remaining monomial.
@@ -116,7 +116,7 @@ module _ (c : List ℕ) (A : AcceptedCurve c) where
   P = poles-on c A
 
   pub reduced-class : {J : Car → Type 0} (w : List ℕ) → BasedIdeal P J → ReducedOf c J w → Equivalent (Ring c) J (Ideal c w)
-  reduced-class w b h = reduced-equivalent P (b .ideal) (b .based) (h .1 A)
+  reduced-class w b h = reduced-equivalent P (b .ideal) (b .based) (reduced-on c A w h)
 
   -- Document 01: "The record of a reduced ideal is the accepted record … whose ideal it is; there is only one."
   pub record-same : (w w′ : List ℕ) → Record c w → Record c w′ → SameIdeal (Ring c) (Ideal c w) (Ideal c w′) → w ≡ w′
@@ -126,10 +126,10 @@ module _ (c : List ℕ) (A : AcceptedCurve c) where
   class-same w w′ r r′ e = record-same w w′ r r′ (footprint-class P (accepted-footprint c A w (r .1)) (accepted-footprint c A w′ (r′ .1)) e)
 
   pub reduced-one : {J : Car → Type 0} (w w′ : List ℕ) → IsIdeal (Ring c) J → ReducedOf c J w → ReducedOf c J w′ → w ≡ w′
-  reduced-one w w′ i h h′ = record-same w w′ (h .0) (h′ .0) (reduced-unique P i (h .1 A) (h′ .1 A))
+  reduced-one w w′ i h h′ = record-same w w′ (h .accepted) (h′ .accepted) (reduced-unique P i (reduced-on c A w h) (reduced-on c A w′ h′))
 
   pub zero-reduced : ReducedOf c (λ _. Unit) zero-record
-  zero-reduced = class-reduced c zero-record (zero-accepted c) (equivalent-same P (zero-ideal c))
+  zero-reduced = class-reduced c A zero-record (zero-accepted c) (equivalent-same P (zero-ideal c))
 
   -- the sum of a and b
   module _ (a b w : List ℕ) (ra : Accepted c a) (rb : Accepted c b) where
@@ -144,17 +144,21 @@ module _ (c : List ℕ) (A : AcceptedCurve c) where
     sum-one w′ h h′ = reduced-one w w′ (product-ideal (Ring c) (accepted-ideal c A a ra)) h h′
 
     pub sum-comm : IsSum c a b w → IsSum c b a w
-    sum-comm h = class-reduced c w (h .0) (equivalent-trans P (equivalent-same P (product-comm (Ring c))) (sum-class h))
+    sum-comm h = class-reduced c A w (h .accepted) (equivalent-trans P (equivalent-same P (product-comm (Ring c))) (sum-class h))
 
   pub zero-neutral : (a : List ℕ) → Record c a → IsSum c zero-record a a
   zero-neutral a r =
-      class-reduced c a r (equivalent-same P (same-trans (Ring c) whole (product-unit (Ring c) (accepted-ideal c A a (r .1)))))
+      class-reduced c A a r (equivalent-same P (same-trans (Ring c) whole (product-unit (Ring c) (accepted-ideal c A a (r .1)))))
     where
       whole : SameIdeal (Ring c) (Product (Ring c) (Ideal c zero-record) (Ideal c a)) (Product (Ring c) (λ _. Unit) (Ideal c a))
       whole = product-same (Ring c) (same-sym (Ring c) (zero-ideal c)) (same-refl (Ring c) (Ideal c a))
 
   pub negative-one : (a w w′ : List ℕ) → Accepted c a → IsNegative c a w → IsNegative c a w′ → w ≡ w′
-  negative-one a w w′ r h h′ = record-same w w′ (h .0) (h′ .0) (star-unique P (accepted-ideal c A a r) (h .1 A) (h′ .1 A))
+  negative-one a w w′ r h h′ = record-same w w′ (h .accepted) (h′ .accepted) (star-unique P (accepted-ideal c A a r) (star-on c A a w h) (star-on c A a w′ h′))
 
 pub negative-back : (c a w : List ℕ) → Record c a → IsNegative c a w → IsNegative c w a
-negative-back c a w r h = (r, λ A. star-back (poles-on c A) (accepted-footprint c A a (r .1)) (h .1 A))
+negative-back c a w r h = record {
+  curve = h .curve;
+  accepted = r;
+  star = star-back (poles-on c (h .curve)) (accepted-footprint c (h .curve) a (r .1)) (h .star);
+}

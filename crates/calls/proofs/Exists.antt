@@ -25,7 +25,7 @@ use Rattle.record.proofs.Suffices.{OneRecord, RecordWith, ReducedRecord, record
 use Rattle.calls.specs.Answer.{minus, Writes, refused, written}
 use Rattle.calls.specs.Class.{Ring, Ideal, poles-on, zero-record, ReducedOf, IsSum, IsNegative, IsListSum, IsMultiple}
 use Rattle.calls.specs.Call.{Sum, Double, Negative, Multiple, ListSum, divisor-of, list-of, room, buffer}
-use Rattle.calls.proofs.Class.{Accepted, AcceptedRow, accepted-based, all-based, any-reduced, any-star}
+use Rattle.calls.proofs.Class.{Accepted, AcceptedRow, accepted-based, all-based}
 use Rattle.calls.proofs.Multiples.{list-class, copies-accepted}
 
 module _ (c : List ℕ) (A : AcceptedCurve c) where
@@ -36,7 +36,7 @@ module _ (c : List ℕ) (A : AcceptedCurve c) where
   reduced-record {J} b = go (record-reduced (setting-of c A) (A .1 .1 .1 .0 .1) b)
     where
       go : OneRecord (ReducedRecord (setting-of c A) J) → (w : List ℕ) × ReducedOf c J w
-      go o = (o .bytes, any-reduced c A (o .bytes) (o .has .bytes, o .has .accepted) (o .has .reduced))
+      go o = (o .bytes, record { curve = A; accepted = (o .has .bytes, o .has .accepted); reduced = o .has .reduced })
 
   pub sum-record : (a b : List ℕ) → Accepted c a → Accepted c b → (w : List ℕ) × IsSum c a b w
   sum-record a b h k = reduced-record (product-based P (accepted-based c A a h) (accepted-based c A b k))
@@ -48,7 +48,7 @@ module _ (c : List ℕ) (A : AcceptedCurve c) where
       go (f, s) = at (record-with (setting-of c A) (A .1 .1 .1 .0 .1) (star-small P (accepted-based c A a h) s))
         where
           at : OneRecord (RecordWith (setting-of c A) (Colon (Ring c) f (Ideal c a))) → (w : List ℕ) × IsNegative c a w
-          at o = (o .bytes, any-star c A a (o .bytes) (o .has .bytes, o .has .accepted) star)
+          at o = (o .bytes, record { curve = A; accepted = (o .has .bytes, o .has .accepted); star = star })
             where
               star : IsStar P (Ideal c a) (Ideal c (o .bytes))
               star = record { f = s .f; least = s .least; same = same-trans (Ring c) (same-sym (Ring c) (o .has .same)) (s .same) }

@@ -39,13 +39,13 @@ module _ (c : List ℕ) (A : AcceptedCurve c) where
   pub list-class : (rs : List (List ℕ)) (w : List ℕ) → AcceptedRow c rs → IsListSum c rs w → Stands c rs w
   list-class [] w a e = subst (Stands c []) (sym e) (record { accepted = zero-accepted c; class = equivalent-same P (zero-ideal c) })
   list-class (r ∷ rs) w a h =
-      record { accepted = h .0; class = reduced-class c A w (productof-based P (Ideal c) (r ∷ rs) (all-based c A (r ∷ rs) a)) h }
+      record { accepted = h .accepted; class = reduced-class c A w (productof-based P (Ideal c) (r ∷ rs) (all-based c A (r ∷ rs) a)) h }
 
   pub class-list : (rs : List (List ℕ)) (w : List ℕ) → Stands c rs w → IsListSum c rs w
   class-list [] w s =
       class-same c A w zero-record (s .accepted) (zero-accepted c)
       (equivalent-trans P (equivalent-sym P (s .class)) (equivalent-same P (zero-ideal c)))
-  class-list (r ∷ rs) w s = class-reduced c w (s .accepted) (s .class)
+  class-list (r ∷ rs) w s = class-reduced c A w (s .accepted) (s .class)
 
   pub stands-one : (rs : List (List ℕ)) (w w′ : List ℕ) → Stands c rs w → Stands c rs w′ → w ≡ w′
   stands-one rs w w′ s s′ = class-same c A w w′ (s .accepted) (s′ .accepted) (equivalent-trans P (equivalent-sym P (s .class)) (s′ .class))
@@ -60,7 +60,7 @@ module _ (c : List ℕ) (A : AcceptedCurve c) where
       go : Stands c rs u → Stands c ts v → IsListSum c (rs ++ ts) w
       go hu hv =
           class-list (rs ++ ts) w
-          (record { accepted = s .0; class = equivalent-trans P joined (sum-law c A u v w (hu .accepted .1) (hv .accepted .1) s (hu .class) (hv .class)) })
+          (record { accepted = s .accepted; class = equivalent-trans P joined (sum-law c A u v w (hu .accepted .1) (hv .accepted .1) s (hu .class) (hv .class)) })
         where
           joined : Equivalent (Ring c) (ProductOf (Ring c) (Ideal c) (rs ++ ts)) (Product (Ring c) (ProductOf (Ring c) (Ideal c) rs) (ProductOf (Ring c) (Ideal c) ts))
           joined = equivalent-same P (productof-append (Ring c) (Ideal c) rs ts (all-ideals c A rs a) (all-ideals c A ts b))
@@ -69,7 +69,7 @@ module _ (c : List ℕ) (A : AcceptedCurve c) where
   list-none = refl
 
   pub list-single : (r : List ℕ) → Record c r → IsListSum c (r ∷ []) r
-  list-single r h = class-reduced c r h (equivalent-same P (productof-one (Ring c) (Ideal c) r (accepted-ideal c A r (h .1))))
+  list-single r h = class-reduced c A r h (equivalent-same P (productof-one (Ring c) (Ideal c) r (accepted-ideal c A r (h .1))))
 
   pub list-more : (rs : List (List ℕ)) (r u w : List ℕ) → AcceptedRow c rs → Record c r → IsListSum c rs u → IsSum c u r w
       → IsListSum c (rs ++ r ∷ []) w

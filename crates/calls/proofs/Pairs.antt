@@ -25,7 +25,7 @@ use Rattle.layout.proofs.Bytes.{bytes-take, bytes-drop}
 use Rattle.record.specs.Curve.{modulus, equation, curve-stages, AcceptedCurve}
 use Rattle.record.specs.Listed.{joined, Listed, list-limit}
 use Rattle.record.proofs.Lists.{listed-once}
-use Rattle.calls.specs.Class.{Ring, Record, Ideal, poles-on, zero-record, IsListSum}
+use Rattle.calls.specs.Class.{Ring, Record, Ideal, poles-on, IsListSum}
 use Rattle.calls.specs.Call.{ListSum, list-of, room}
 use Rattle.calls.specs.Pool.{PoolCall, entry, pool-after, groups-after, pool-of, groups-of, Made, alone-from, alone, served, CallAnswers, ListAnswer, PoolEnd}
 use Rattle.calls.proofs.Together.{Together, together-length, together-entry, together-every}
@@ -116,12 +116,15 @@ module _ (c : List ℕ) (A : AcceptedCurve c) (rs : List (List ℕ)) where
       where
         at : (w : List ℕ) → r ≡ pos (length w) → out′ ≡ w ++ drop (length w) out → IsListSum c rs w → ListAnswer c rs p out r out′
         at w e q s = record {
-          one-left = λ v u. let same = stands-one c A rs w v (list-class c A rs w (listed .accepted) s) (last-stands gs p v kept u) in give v same;
-          none-given = λ u. give zero-record (subst (λ (ts : List (List ℕ)). IsListSum c ts w) u s);
+          sum = w;
+          wrote = (e, q);
+          all = class-reduced c A w (stands .accepted) (stands .class);
+          one-left = λ v u. stands-one c A rs w v stands (last-stands gs p v kept u);
+          none-given = λ u. subst (λ (ts : List (List ℕ)). IsListSum c ts w) u s;
         }
           where
-            give : (v : List ℕ) → w ≡ v → (r ≡ pos (length v)) × (out′ ≡ v ++ drop (length v) out)
-            give v same = (e ∙ ap (λ (t : List ℕ). pos (length t)) same, q ∙ ap (λ (t : List ℕ). t ++ drop (length t) out) same)
+            stands : Stands c rs w
+            stands = list-class c A rs w (listed .accepted) s
 
         go : Answered (λ w. (ts : List (List ℕ)) × Listed (modulus c) (equation c) (joined rs) ts × IsListSum c ts w) out r out′
             → ListAnswer c rs p out r out′
@@ -139,10 +142,11 @@ adding-by-pairs c s rs A b few listed ks made = go (run c A rs ks (alone (length
 
     go : Ended c rs (alone (length rs)) rs ks → PoolEnd c rs ks
     go h = record {
+      curve = A;
       answers = h .answers;
       each =
           λ m l. let g =
-          together-entry (Good c rs) (groups-of ks (alone (length rs))) (pool-of ks rs) (h .kept .together) m l in class-reduced c
+          together-entry (Good c rs) (groups-of ks (alone (length rs))) (pool-of ks rs) (h .kept .together) m l in class-reduced c A
           (entry (pool-of ks rs) m) (g .accepted) (g .class);
       groups = together-length (Good c rs) (groups-of ks (alone (length rs))) (pool-of ks rs) (h .kept .together);
       left = h .left;

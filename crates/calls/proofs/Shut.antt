@@ -5,6 +5,7 @@
 --   list-pair              the list call on two records gives what the sum call gives: no record is skipped
 --   count-all              a count is the number of the list's records of that kind
 --   no-call                with one record or none, no call can be made
+--   refused-reduced, refused-negative, refused-pool    on a refused curve no record is a result, and nothing is claimed of a pool
 use mathlib.Core.Path.{_≡_, refl, sym, _∙_, ap, subst}
 use mathlib.Core.Logic.{_⊎_, inl, inr}
 use mathlib.Core.List.{List, [], _∷_, _++_}
@@ -18,9 +19,9 @@ use Rattle.record.specs.Listed.{joined, Listed, list-limit}
 use Rattle.record.proofs.Cause.{AllSound, passes-refuses}
 use Rattle.record.proofs.Lists.{curve-sound, listed-once}
 use Rattle.calls.specs.Answer.{Returns, refused, answered}
-use Rattle.calls.specs.Class.{Record, zero-record, IsSum, IsListSum}
+use Rattle.calls.specs.Class.{Ring, Record, zero-record, ReducedOf, IsSum, IsNegative, IsListSum}
 use Rattle.calls.specs.Call.{CheckCurve, CheckDivisor, Sum, ListSum, Compare, Count, divisor-of, list-of, room, tally}
-use Rattle.calls.specs.Pool.{PoolCall, IsCall}
+use Rattle.calls.specs.Pool.{PoolCall, IsCall, PoolEnd}
 use Rattle.calls.proofs.Class.{Accepted, zero-accepted, sum-one, sum-comm, zero-neutral}
 use Rattle.calls.proofs.Multiples.{list-one, list-append, list-single}
 use Rattle.calls.proofs.Exists.{one-passes, two-passes, list-passes}
@@ -99,3 +100,13 @@ module _ (c : List ℕ) (A : AcceptedCurve c) where
 -- "With one record or none, no call can be made."
 pub no-call : (c : List ℕ) (p : List (List ℕ)) (k : PoolCall) → length p < 2 → ¬ IsCall c p k
 no-call c p k l h = h .apart (omega (arith, h .i-below, h .j-below))
+
+module _ (c : List ℕ) (n : ¬ AcceptedCurve c) where
+  pub refused-reduced : (J : Ring c .Car → Type 0) (w : List ℕ) → ¬ ReducedOf c J w
+  refused-reduced J w h = n (h .curve)
+
+  pub refused-negative : (a w : List ℕ) → ¬ IsNegative c a w
+  refused-negative a w h = n (h .curve)
+
+  pub refused-pool : (rs : List (List ℕ)) (ks : List PoolCall) → ¬ PoolEnd c rs ks
+  refused-pool rs ks h = n (h .curve)

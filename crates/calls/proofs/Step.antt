@@ -50,7 +50,7 @@ module _ (c : List ℕ) (A : AcceptedCurve c) (rs : List (List ℕ)) where
 
   pub good-sum : (g h a b w : List ℕ) → Good c rs g a → Good c rs h b → IsSum c a b w → Good c rs (g ++ h) w
   good-sum g h a b w x y s = record {
-    accepted = s .0;
+    accepted = s .accepted;
     ideals = every-append (λ i. IsIdeal (Ring c) (Ideal c (entry rs i))) g h (x .ideals) (y .ideals);
     class =
         equivalent-trans P
@@ -105,7 +105,7 @@ module _ (c : List ℕ) (A : AcceptedCurve c) (rs : List (List ℕ)) where
               (together-without (Good c rs) gs p 0 (k .i) (k .j) (kept .together))
               (good-sum (entry gs (k .i)) (entry gs (k .j)) (entry p (k .i)) (entry p (k .j)) w first second s);
           whole =
-              equivalent-trans P (equivalent-sym P (productof-merge P (Ideal c) moved ideals (accepted-ideal c A w (s .0 .1)) product)) (kept .whole);
+              equivalent-trans P (equivalent-sym P (productof-merge P (Ideal c) moved ideals (accepted-ideal c A w (s .accepted .1)) product)) (kept .whole);
         }
           where
             ideals : Every (λ r. IsIdeal (Ring c) (Ideal c r)) p

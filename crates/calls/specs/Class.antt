@@ -1,12 +1,12 @@
--- Document 01, "What a sum is", in bytes, on an accepted curve. A string of bytes w is the result if it is an accepted record and its ideal
--- is the one that the definition gives.
+-- Document 01, "What a sum is", in bytes. A string of bytes w is the result if the curve is accepted, w is an accepted record on it and its
+-- ideal is the one that the definition gives.
 --   field-of c, curve-of c     the modulus and the curve of the curve's bytes c
 --   Record c w                 w is an accepted divisor record on the curve
 --   Ideal c w                  its ideal
 --   zero-record                the record of the zero class
---   ReducedOf c J w            w is the record of the reduced ideal of J
+--   ReducedOf c J w            c is an accepted curve, and w the record of the reduced ideal of J
 --   IsSum c a b w              … of the product of the ideals of a and b
---   IsNegative c a w           w is the record of I*, I the ideal of a
+--   IsNegative c a w           c is an accepted curve, and w the record of I*, I the ideal of a
 --   IsMultiple c a n w         w is the record of the multiple of a by the whole number n
 --   IsListSum c rs w           … of the product of the ideals of the records rs; the zero class for none
 use mathlib.Core.Path.{_≡_}
@@ -40,16 +40,20 @@ abbrev pub zero-record : List ℕ
 zero-record = record-bytes 0 []
 
 -- "The reduced ideal of J is (J*)*." "The record of a reduced ideal is the accepted record … whose ideal it is."
-abbrev pub ReducedOf : (c : List ℕ) → (Ring c .Car → Type 0) → List ℕ → Type 0
-ReducedOf c J w = Record c w × ((A : AcceptedCurve c) → IsReduced (poles-on c A) J (Ideal c w))
+pub record ReducedOf (c : List ℕ) (J : Ring c .Car → Type 0) (w : List ℕ) : Type 0 where
+  pub curve : AcceptedCurve c
+  pub accepted : Record c w
+  pub reduced : IsReduced (poles-on c curve) J (Ideal c w)
 
 -- "The sum is the reduced ideal of the product." The double is the sum of a record with itself.
 abbrev pub IsSum : (c a b w : List ℕ) → Type 0
 IsSum c a b w = ReducedOf c (Product (Ring c) (Ideal c a) (Ideal c b)) w
 
 -- "The negative of I is I*."
-abbrev pub IsNegative : (c a w : List ℕ) → Type 0
-IsNegative c a w = Record c w × ((A : AcceptedCurve c) → IsStar (poles-on c A) (Ideal c a) (Ideal c w))
+pub record IsNegative (c a w : List ℕ) : Type 0 where
+  pub curve : AcceptedCurve c
+  pub accepted : Record c w
+  pub star : IsStar (poles-on c curve) (Ideal c a) (Ideal c w)
 
 -- "The list sum is the reduced ideal of the product of all, and the zero class for an empty list."
 abbrev pub IsListSum : (c : List ℕ) → List (List ℕ) → List ℕ → Type 0

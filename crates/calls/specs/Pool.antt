@@ -12,6 +12,8 @@
 --   Made c p ks          the calls ks are made one after the other, each on the pool that the one before it left
 --   alone n              the groups at the start: the group of the record at place i is i alone
 --   served ks            how many calls have a buffer of 40 bytes or more
+--   Wrote w out r out′   a call returned the length of w, and wrote w at the start of its buffer and nothing after it
+--   ListAnswer           what the single list call over the given records writes
 --   PoolEnd c rs ks      what document 01 claims of the calls ks on the pool of the given records rs
 use mathlib.Core.Path.{_≡_}
 use mathlib.Core.List.{List, [], _∷_, _++_}
@@ -21,6 +23,7 @@ use lib.ListN.{length, getD, take, drop}
 use lib.IntN.{ℤ, pos, negsuc}
 use lib.Dec.{eqb, leb}
 use Rattle.ideal.specs.Ideal.{ProductOf}
+use Rattle.record.specs.Curve.{AcceptedCurve}
 use Rattle.record.specs.Listed.{joined}
 use Rattle.calls.specs.Answer.{minus}
 use Rattle.calls.specs.Class.{Ring, Ideal, ReducedOf, zero-record}
@@ -96,22 +99,29 @@ abbrev pub served : List PoolCall → ℕ
 served [] = 0
 served (k ∷ ks) = one-if (leb room (length (k .before))) + served ks
 
+abbrev pub Wrote : (w out : List ℕ) → ℤ → List ℕ → Type 0
+Wrote w out r out′ = (r ≡ pos (length w)) × (out′ ≡ w ++ drop (length w) out)
+
 -- "a call is refused exactly when its buffer is under 40 bytes, and then leaves the pool as it was; else … the one that it wrote comes in"
 pub record CallAnswer (k : PoolCall) : Type 0 where
   pub short : length (k .before) < room → (k .returned ≡ minus 10) × (k .after ≡ k .before)
-  pub enough : room ≤ length (k .before)
-      → (k .returned ≡ pos (length (written-by k))) × (k .after ≡ written-by k ++ drop (length (written-by k)) (k .before))
+  pub enough : room ≤ length (k .before) → Wrote (written-by k) (k .before) (k .returned) (k .after)
 
 abbrev pub CallAnswers : List PoolCall → Type 0
 CallAnswers [] = Unit
 CallAnswers (k ∷ ks) = CallAnswer k × CallAnswers ks
 
--- the single list call over the given records, with a buffer of 40 bytes or more
+-- "A single list call over the given records, with a buffer of 40 bytes or more, writes the record of the reduced ideal of the product of
+-- all their ideals: byte for byte the pool's record where only one is left, the zero record where none was given." p′ is the pool.
 pub record ListAnswer (c : List ℕ) (rs p′ : List (List ℕ)) (out : List ℕ) (r : ℤ) (out′ : List ℕ) : Type 0 where
-  pub one-left : (w : List ℕ) → p′ ≡ w ∷ [] → (r ≡ pos (length w)) × (out′ ≡ w ++ drop (length w) out)
-  pub none-given : rs ≡ [] → (r ≡ pos (length zero-record)) × (out′ ≡ zero-record ++ drop (length zero-record) out)
+  pub sum : List ℕ
+  pub wrote : Wrote sum out r out′
+  pub all : ReducedOf c (ProductOf (Ring c) (Ideal c) rs) sum
+  pub one-left : (w : List ℕ) → p′ ≡ w ∷ [] → sum ≡ w
+  pub none-given : rs ≡ [] → sum ≡ zero-record
 
 pub record PoolEnd (c : List ℕ) (rs : List (List ℕ)) (ks : List PoolCall) : Type 0 where
+  pub curve : AcceptedCurve c
   pub answers : CallAnswers ks
   -- "each record in the pool is byte for byte the record of the reduced ideal of the product of the ideals of the given records whose
   -- places at the start are in its group"

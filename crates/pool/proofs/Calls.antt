@@ -96,7 +96,7 @@ module _ (c : List ℕ) (A : AcceptedCurve c) (s : List ℕ) (p : List (List ℕ
     where
       go : Answered (IsSum c (entry p i) (entry p j)) out r out′ → Wrote c out r out′
       go (short m e q) = absurd (omega arith)
-      go (enough w m g e q) = record { w = w; good = g .0; few = record-fits c w (g .0) .1; returned = e; leaves = q }
+      go (enough w m g e q) = record { w = w; good = g .accepted; few = record-fits c w (g .accepted) .1; returned = e; leaves = q }
 
   pub made-short : length out < room → CallMade c p i j out s (length p)
   made-short l = record {

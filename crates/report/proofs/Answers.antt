@@ -83,7 +83,7 @@ cause-small c s = small-first (curve-stages c ++ list-of c s) (small-append (cur
 
 pub sum-fits : (c : List ℕ) (rs : List (List ℕ)) (w : List ℕ) → IsListSum c rs w → (4 ≤ length w) × (length w ≤ room)
 sum-fits c [] w e = (omega (arith, ap length e, length-record 0 []), omega (arith, ap length e, length-record 0 []))
-sum-fits c (r ∷ rs) w h = record-fits c w (h .0)
+sum-fits c (r ∷ rs) w h = record-fits c w (h .accepted)
 
 pub data SumAnswer (c s : List ℕ) (r : ℤ) (out′ : List ℕ) : Type 0 where
   refused-sum : (n : ℕ) → FirstCause (curve-stages c ++ list-of c s) n → r ≡ minus n → SumAnswer c s r out′

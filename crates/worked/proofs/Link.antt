@@ -167,7 +167,7 @@ module _ (c : List ℕ) where
 
     pub sum-sound : Record c w → (k : Link) → T (link c a b w κa κb κw k) → IsSum c a b w
     sum-sound r k t =
-        class-reduced c w r
+        class-reduced c A w r
         (equivalent-trans (poles-on c A) (equivalent-same (poles-on c A) product-values)
         (equivalent-trans (poles-on c A) (linked-sound p n (omega (arith, A .1 .1 .1 .0 .0 .two-le)) gs (polynomials-of κw w) k t)
         (equivalent-same (poles-on c A) (same-sym (Ring c) (ideal-values κw w ew)))))

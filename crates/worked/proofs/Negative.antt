@@ -37,7 +37,6 @@ use Rattle.record.specs.Curve.{modulus, coefficient-number, equation, AcceptedC
 use Rattle.record.specs.Divisor.{of-kind, number-at}
 use Rattle.record.proofs.Accepted.{Reads, ideal-reads}
 use Rattle.calls.specs.Class.{Ring, Record, Ideal, poles-on, IsNegative}
-use Rattle.calls.proofs.Class.{any-star}
 use Rattle.worked.specs.Table.{Point}
 use Rattle.worked.proofs.Tests.{both-left, both-right}
 use Rattle.worked.proofs.Vanish.{x, y, coefficients-of, at-xy, constant-number, agree, agree-sound}
@@ -196,7 +195,7 @@ module _ (c : List ℕ) (A : AcceptedCurve c) (a w : List ℕ) (κa κw : Kind) 
 
   pub negative-sound : Reads (modulus c) (equation c) κa a → of-kind w κw → Record c w → (qs : List E) → T (negated c a w κa κw qs)
       → IsNegative c a w
-  negative-sound ra ew r qs t = any-star c A a w r (go (star-sound (ra .basis) qs t))
+  negative-sound ra ew r qs t = record { curve = A; accepted = r; star = go (star-sound (ra .basis) qs t) }
     where
       ia : SameIdeal (Ring c) Ia (Ideal c a)
       ia = same-sym (Ring c) (ideal-reads p (equation c) κa a (ra .kind))
