@@ -9,9 +9,9 @@
 
 enum { RECORDS = 64, LISTED = 500, PRIMES = 10, MULTIPLES = 8 };
 
-/* A curve with records on it, a list of records and multipliers of 63 bits. */
+/* A curve with records on it, a list of records and multipliers of 63 bits; the curve with c8 = p. */
 struct set {
-    uint8_t curve[44], rec[RECORDS][40], list[LISTED * 40];
+    uint8_t curve[44], refused[44], rec[RECORDS][40], list[LISTED * 40];
     size_t curve_len, len[RECORDS], list_len;
     int64_t n[MULTIPLES];
 };
@@ -41,6 +41,8 @@ static void write_curve(struct set *s, uint32_t p, const uint32_t c[9])
     write_u32(s->curve + 4, p);
     for (int i = 0; i < 9; i++)
         write_u32(s->curve + 8 + 4 * i, c[i]);
+    memcpy(s->refused, s->curve, 44);
+    write_u32(s->refused + 40, p);
 }
 
 /* Random c1 to c8 and the c0 that puts (x, y) on the curve. */

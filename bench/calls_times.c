@@ -1,4 +1,5 @@
-/* Times of the nine calls of libc34.a and of the same calls in C, by turns in one run on the same inputs, and ratios.
+/* Times of the nine calls of libc34.a and of the same calls in C, by turns in one run on the same inputs, and ratios. The
+   parts of a call are differences of calls' times.
      calls_times [NS]       prints all tables; NS is Singular's time of a bare sum, left out where it is not known
      calls_times short      prints the tables without the sequences
      calls_times singular   prints a Singular program that times bare sums of the same records and prints NS
@@ -22,17 +23,18 @@ typedef int32_t call(const struct set *, int, uint8_t *);
 #define CURVE s->curve, s->curve_len
 #define RECORD(i) s->rec[(i) % RECORDS], s->len[(i) % RECORDS]
 #define LIST s->list, s->list_len
-#define BOTH(name, ...)                                                     \
-    static int32_t proved_##name(const struct set *s, int i, uint8_t *out)  \
+#define BOTH_AS(label, name, ...)                                           \
+    static int32_t proved_##label(const struct set *s, int i, uint8_t *out) \
     {                                                                       \
         (void)i, (void)out;                                                 \
         return c34_##name(__VA_ARGS__);                                     \
     }                                                                       \
-    static int32_t plain_##name(const struct set *s, int i, uint8_t *out)   \
+    static int32_t plain_##label(const struct set *s, int i, uint8_t *out)  \
     {                                                                       \
         (void)i, (void)out;                                                 \
         return base_##name(__VA_ARGS__);                                    \
     }
+#define BOTH(name, ...) BOTH_AS(name, name, __VA_ARGS__)
 
 BOTH(check_curve, CURVE)
 BOTH(check_divisor, CURVE, RECORD(i))
@@ -43,18 +45,22 @@ BOTH(compare, CURVE, RECORD(i), RECORD(i / 2 * 2))
 BOTH(count, CURVE, LIST, 31)
 BOTH(list_sum, CURVE, LIST, out, 40)
 BOTH(multiple, CURVE, RECORD(i), s->n[i % MULTIPLES], out, 40)
+/* What comes before the test whether the curve is singular. */
+BOTH_AS(refused_curve, check_curve, s->refused, s->curve_len)
 
-enum { CHECK_CURVE, CHECK_DIVISOR, SUM, DOUBLE, NEGATIVE, COMPARE, COUNT_KIND, LIST_SUM, MULTIPLE, CALLS };
+enum { CHECK_CURVE, CHECK_DIVISOR, SUM, DOUBLE, NEGATIVE, COMPARE, COUNT_KIND, LIST_SUM, MULTIPLE, REFUSED_CURVE, CALLS };
 
 #define ROW(name) #name, {proved_##name, plain_##name}
 static const struct {
     const char *name;
     call *side[2]; /* proved, C */
     int inputs;
+    int32_t refusal; /* what the call returns if it is refused, else 0 */
 } row[CALLS] = {
-    {ROW(check_curve), RECORDS}, {ROW(check_divisor), RECORDS}, {ROW(sum), RECORDS},
-    {ROW(double), RECORDS},      {ROW(negative), RECORDS},      {ROW(compare), RECORDS},
-    {ROW(count), 1},             {ROW(list_sum), 1},            {ROW(multiple), MULTIPLES},
+    {ROW(check_curve), RECORDS, 0}, {ROW(check_divisor), RECORDS, 0}, {ROW(sum), RECORDS, 0},
+    {ROW(double), RECORDS, 0},      {ROW(negative), RECORDS, 0},      {ROW(compare), RECORDS, 0},
+    {ROW(count), 1, 0},             {ROW(list_sum), 1, 0},            {ROW(multiple), MULTIPLES, 0},
+    {"check_curve, refused with 4", {proved_refused_curve, plain_refused_curve}, RECORDS, -4},
 };
 
 /* ---- times ---- */
@@ -77,7 +83,7 @@ static void same_answers(int k, const struct set *s)
         uint8_t out[2][40];
         memset(out, 170, sizeof out);
         int32_t a = row[k].side[0](s, i, out[0]), b = row[k].side[1](s, i, out[1]);
-        if (a < 0 || a != b || memcmp(out[0], out[1], 40) != 0)
+        if ((a < 0 && a != row[k].refusal) || a != b || memcmp(out[0], out[1], 40) != 0)
             fail(row[k].name);
     }
 }
@@ -308,8 +314,14 @@ static struct times print_calls(void)
     struct times check_b = over(plus(b[COUNT_KIND], -1, b[CHECK_CURVE]), LISTED);
     struct times sum_a = plus(plus(a[SUM], -1, a[CHECK_CURVE]), -2, check_a);
     struct times sum_b = plus(plus(b[SUM], -1, b[CHECK_CURVE]), -2, check_b);
+    struct times star_a = plus(a[NEGATIVE], -1, a[CHECK_DIVISOR]);
+    struct times star_b = plus(b[NEGATIVE], -1, b[CHECK_DIVISOR]);
+    print_row("test whether the curve is singular", plus(a[CHECK_CURVE], -1, a[REFUSED_CURVE]),
+              plus(b[CHECK_CURVE], -1, b[REFUSED_CURVE]));
     print_row("divisor's check, from count", check_a, check_b);
+    print_row("star of a record, from negative", star_a, star_b);
     print_row("bare sum: sum without its checks", sum_a, sum_b);
+    print_row("product and its star, from the two", plus(sum_a, -1, star_a), plus(sum_b, -1, star_b));
     print_row("list_sum, per record", over(a[LIST_SUM], LISTED), over(b[LIST_SUM], LISTED));
     print_row("list_sum less count, per record", over(plus(a[LIST_SUM], -1, a[COUNT_KIND]), LISTED),
               over(plus(b[LIST_SUM], -1, b[COUNT_KIND]), LISTED));

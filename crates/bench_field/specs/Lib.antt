@@ -1,2 +1,2 @@
--- What the loops require.
+-- What the loops require, and what the calls return.
 pub mod Contract

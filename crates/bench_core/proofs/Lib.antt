@@ -1,2 +1,0 @@
--- From reading to what the arithmetic requires.
-pub mod Ground

@@ -1,2 +1,0 @@
--- What reading gives and what the loops require.
-pub mod Contract
