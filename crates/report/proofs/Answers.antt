@@ -4,15 +4,13 @@
 --   sum-answer       a list sum with room for 40 bytes has one of them
 --   SumGiven, sum-cause, sum-refused, sum-given    the same by the number that was returned
 --   sum-fits         the record of a list sum has 4 to 40 bytes
---   report-cut       a list of over 32,768 bytes may be cut to 32,769
 use mathlib.Core.Path.{_≡_, refl, sym, ap, _∙_, subst}
 use mathlib.Core.Logic.{_⊎_, inl, inr}
 use mathlib.Core.List.{List, [], _∷_, _++_}
-use Prim.Native.Nat.{ℕ, zero, suc, _+_, _≤_, _<_}
+use Prim.Native.Nat.{ℕ, zero, suc, _≤_}
 use native.Mathlib.Omega.{arith}
-use lib.ListN.{length, take, drop, length-take, length-drop}
-use lib.Seq.{take-at, take-take, take-all, length-take-le}
-use native.Mathlib.Decide.{decLe}
+use lib.ListN.{length, take, drop, length-take}
+use lib.Seq.{take-at}
 use lib.IntN.{ℤ, pos}
 use Rattle.field.specs.Residue.{Z}
 use Rattle.curve.specs.Curve.{Curve}
@@ -21,14 +19,13 @@ use Rattle.layout.proofs.Bytes.{length-record}
 use Rattle.record.specs.Cause.{Stage, must, FirstCause, Passes}
 use Rattle.record.specs.Curve.{modulus, equation, curve-stages}
 use Rattle.record.specs.Divisor.{divisor-stages}
-use Rattle.record.specs.Listed.{Listed, ListRefused, next-stages, list-limit}
+use Rattle.record.specs.Listed.{Listed, ListRefused, next-stages}
 use Rattle.record.proofs.Cause.{passes-append, first-append}
 use Rattle.calls.specs.Answer.{minus, refused, written}
 use Rattle.calls.specs.Class.{IsListSum, zero-record}
 use Rattle.calls.specs.Call.{list-of, room, buffer, ListSum}
 use Rattle.calls.specs.Pool.{amount}
 use Rattle.calls.proofs.Answers.{record-fits}
-use Rattle.report.specs.Report.{ReportOn, Report, refused as refused-report, counted}
 use Rattle.report.specs.Contracts.{cause-of}
 
 -- the numbers from 1 to 11, and stages that refuse with no others
@@ -139,34 +136,3 @@ module _ {c s : List ℕ} {r : ℤ} {out′ : List ℕ} where
         full = size ∙ ap length (sym is);
         inside = omega (arith, size, ap length is, length-take m out′);
       }
-
--- A list that is too long is refused with 11, whatever its bytes are.
-module _ (c s s′ : List ℕ) (h : list-limit < length s) (h′ : list-limit < length s′) where
-  cut-cause : (n : ℕ) → FirstCause (list-of c s′) n → FirstCause (list-of c s) n
-  cut-cause n (inl f) = inl (λ l. omega arith, f .1)
-  cut-cause n (inr f) = absurd (omega (arith, f .0))
-
-  too-long : (text : List ℕ) → ReportOn c s′ text → ReportOn c s text
-  too-long text (refused-report n f e) = refused-report n (go (first-append (curve-stages c) (list-of c s′) n .0 f)) e
-    where
-      go : FirstCause (curve-stages c) n ⊎ (Passes (curve-stages c) × FirstCause (list-of c s′) n)
-          → FirstCause (curve-stages c ++ list-of c s) n
-      go (inl g) = first-append (curve-stages c) (list-of c s) n .1 (inl g)
-      go (inr g) = first-append (curve-stages c) (list-of c s) n .1 (inr (g .0, cut-cause n (g .1)))
-  too-long text (counted rs w p l k e) = absurd (omega (arith, passes-append (curve-stages c) (list-of c s′) .0 p .1 .0))
-
--- the bytes of the input that are read: a curve and one byte more than the longest list
-abbrev pub enough : ℕ
-enough = 44 + suc list-limit
-
-pub report-cut : (input text : List ℕ) → Report (take enough input) text → Report input text
-report-cut input text r = go (decLe (length input) enough)
-  where
-    go : Dec (length input ≤ enough) → Report input text
-    go (yes h) = subst (λ (s : List ℕ). Report s text) (take-all enough input h) r
-    go (no h) =
-        let same : take 44 (take enough input) ≡ take 44 input = take-take 44 enough input (omega arith) in
-        too-long (take 44 input) (drop 44 input) (drop 44 (take enough input))
-        (omega (arith, length-drop 44 input, h))
-        (omega (arith, length-drop 44 (take enough input), length-take-le enough input (omega (arith, h))))
-        text (subst (λ (c : List ℕ). ReportOn c (drop 44 (take enough input)) text) same r)

@@ -1,7 +1,10 @@
--- Each input has at most one text.
+-- Each input has at most one text, and so has what was read of it.
+--   report-determined    two texts that are printed for an input are the same
+--   read-determined      … for what was read
 use mathlib.Core.Path.{_≡_, sym, ap, ap₂, _∙_, subst}
 use mathlib.Core.List.{List, _++_}
-use Prim.Native.Nat.{ℕ}
+use Prim.Native.Nat.{ℕ, _≤_}
+use lib.ListN.{length, take}
 use Rattle.record.specs.Cause.{FirstCause, Passes}
 use Rattle.record.specs.Curve.{modulus, equation, curve-stages}
 use Rattle.record.proofs.Cause.{passes-refuses, one-cause, passes-append}
@@ -11,6 +14,8 @@ use Rattle.calls.specs.Call.{list-of}
 use Rattle.calls.proofs.Answers.{list-of-sound}
 use Rattle.calls.proofs.Multiples.{list-one}
 use Rattle.report.specs.Report.{ReportOn, refused, counted, Report, curve-part, list-part, lines, refused-line}
+use Rattle.report.specs.Contracts.{ReadFrom, ReportsRead}
+use Rattle.report.proofs.Cut.{some-input}
 
 module _ (c s text text′ : List ℕ) where
   -- what is accepted is not refused
@@ -30,3 +35,9 @@ module _ (c s text text′ : List ℕ) where
 
 pub report-determined : (input text text′ : List ℕ) → Report input text → Report input text′ → text ≡ text′
 report-determined input text text′ = report-on-one (curve-part input) (list-part input) text text′
+
+pub read-determined : (read : List ℕ) (n : ℕ) (text text′ : List ℕ) → n ≤ length read
+    → ReportsRead read n text → ReportsRead read n text′ → text ≡ text′
+read-determined read n text text′ h r r′ =
+    let read-all : ReadFrom (take n read) read n = some-input h in
+    report-determined (take n read) text text′ (r (take n read) read-all) (r′ (take n read) read-all)

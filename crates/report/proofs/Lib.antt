@@ -2,6 +2,7 @@
 pub mod Counts
 pub mod Answers
 pub mod Determined
+pub mod Cut
 pub mod Puts
 pub mod Signed
 pub mod Examples

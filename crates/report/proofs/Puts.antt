@@ -1,9 +1,9 @@
 -- Lines as they are put piece by piece.
 --   share-none, share-some    the line of the share for no record, and for some
 --   share-small      a share is 10,000 hundredths at most
---   curve-same, list-same, parts-printed    the parts of an input, and the report on them
+--   curve-same, list-same, parts-reported    the parts of an input, and the report on them
 --   spaced-more      the numbers of a record behind spaces: one number more
-use mathlib.Core.Path.{_≡_, refl, sym, ap, _∙_, subst₂}
+use mathlib.Core.Path.{_≡_, refl, sym, ap, _∙_, subst, subst₂}
 use mathlib.Core.List.{List, [], _∷_, _++_, append-assoc, append-nil}
 use Prim.Native.Nat.{ℕ, zero, suc, _+_, _*_, _/_, _≤_, _<_, min}
 use native.Mathlib.Nat.{div-lt-iff-lt-mul}
@@ -11,12 +11,13 @@ use native.Mathlib.Numerals.{add-one}
 use native.Mathlib.Decide.{decLe}
 use native.Mathlib.Omega.{arith}
 use lib.ListN.{length, take, drop, drop-of-length-le}
-use lib.Seq.{take-all}
+use lib.Seq.{take-all, take-at}
 use Rattle.text.specs.Ascii.{ascii}
 use Rattle.text.specs.Decimal.{decimal}
 use Rattle.layout.specs.Layout.{number4, numbers}
-use Rattle.report.specs.Report.{rounded, per-cent, share-line, spaced, curve-part, list-part}
-use Rattle.report.specs.Contracts.{PrintedOn, Printed}
+use Rattle.record.specs.Curve.{curve-size}
+use Rattle.report.specs.Report.{rounded, per-cent, share-line, spaced, curve-part, list-part, ReportOn, Report}
+use Rattle.report.specs.Contracts.{PrintedOn}
 
 pub share-none : (t n : ℕ) → n ≡ 0 → share-line t n ≡ ascii "share none\n"
 unfolding share-line
@@ -68,7 +69,16 @@ list-same input size e = go (decLe 44 (length input))
     go (yes h) = let whole : size ≡ 44 = omega arith in ap (λ (n : ℕ). drop n input) whole
     go (no h) = drop-of-length-le input {i = size} (omega (arith, h)) ∙ sym (drop-of-length-le input {i = 44} (omega (arith, h)))
 
-pub parts-printed : (input : List ℕ) (size : ℕ) (rest : List ℕ) {out : List ℕ} {r : ℕ} {out′ : List ℕ} → size ≡ min (length input) 44 → rest ≡ drop size input
-    → PrintedOn (take size input) rest out r out′ → Printed input out r out′
-parts-printed input size rest {out} {r} {out′} e k h =
-    subst₂ (λ (c s : List ℕ). PrintedOn c s out r out′) (curve-same input size e) (k ∙ list-same input size e) h
+-- the bytes that were put are the text
+text-put : {c s out : List ℕ} {r : ℕ} {out′ : List ℕ} → PrintedOn c s out r out′ → ReportOn c s (take r out′)
+text-put {c} {s} {out} {r} {out′} h =
+    let end : length (h .text) ≡ r = omega (arith, h .put .next) in
+    subst (ReportOn c s) (sym (ap (take r) (h .put .is) ∙ take-at (h .text) _ r end)) (h .report)
+
+pub parts-reported : (input : List ℕ) {end m r k : ℕ} {rest out out′ : List ℕ} → PrintedOn (take m input) rest out r out′
+    → end ≡ min (length input) curve-size → m ≡ end → rest ≡ drop end input → k ≡ r → Report input (take k out′)
+parts-reported input {end} {m} {r} {k} {rest} {out} {out′} h e em er ek =
+    let curve : take m input ≡ curve-part input = ap (λ (n : ℕ). take n input) em ∙ curve-same input end e in
+    let text : ReportOn (curve-part input) (list-part input) (take r out′) =
+    subst₂ (λ (c s : List ℕ). ReportOn c s (take r out′)) curve (er ∙ list-same input end e) (text-put h) in
+    subst (λ (n : ℕ). Report input (take n out′)) (sym ek) text

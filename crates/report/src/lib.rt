@@ -9,8 +9,8 @@ ghost use Rattle.text.specs.Decimal.{decimal};
 ghost use Rattle.text.specs.Put.{Placed};
 ghost use Rattle.layout.specs.Layout.{numbers};
 ghost use Rattle.calls.specs.Pool.{amount};
-ghost use Rattle.report.specs.Report.{rounded, per-cent, share-line, count-line, count-lines, spaced, sum-line};
-ghost use Rattle.report.specs.Contracts.{cause-of, Counted, AllPut, PrintedOn, Printed};
+ghost use Rattle.report.specs.Report.{rounded, per-cent, share-line, count-line, count-lines, spaced, sum-line, Report};
+ghost use Rattle.report.specs.Contracts.{cause-of, Counted, AllPut, PrintedOn, enough, ReportsRead};
 
 // The number of the refusal that a call returned; 0 for none.
 fn cause(r: i32) -> u32
@@ -182,21 +182,29 @@ fn curve_end(n: usize) -> usize
     44
 }
 
-// All that is printed for an input, put at the start of `out`; returns how many bytes that is.
-pub fn report(input: &[u8], out: &mut [u8]) -> usize
+// All that is printed for an input, put at the start of `out`; returns that part of `out`.
+pub fn report<'a>(input: &[u8], out: &'a mut [u8]) -> &'a mut [u8]
     requires { do ⌜ 256 ≤ (← ⟦out.len()⟧) ⌝ }
-    ensures { λ r. ⌜ Printed (now (input .entry)) (now (out .entry)) r (now (out .exit)) ⌝ }
+    ensures { λ r. ⌜ Report (now (input .entry)) (now r) ⌝ }
 {
-    let size = curve_end(input.len());
-    put_report(out, &input[..size], &input[size..])
+    let end = curve_end(input.len());
+    let size = put_report(out, &input[0..end], &input[end..]);
+    &mut out[0..size]
 }
 
-// Prints the report on an input.
-pub fn print(input: &[u8]) {
-    let mut out = [0u8; 256];
-    let size = report(input, &mut out);
-    io::write_all(1, &out[..size]);
+// All that is printed for the standard input, of which the first n bytes of the buffer `read` were read; put and returned as by `report`.
+// The buffer has to have room for one byte more than the longest list: a list that is too long is then known by what was read.
+pub fn report_read<'a>(read: &[u8], n: usize, out: &'a mut [u8]) -> &'a mut [u8]
+    requires { do ⌜ enough ≤ (← ⟦read.len()⟧) ⌝ }
+    requires { do ⌜ n ≤ (← ⟦read.len()⟧) ⌝ }
+    requires { do ⌜ 256 ≤ (← ⟦out.len()⟧) ⌝ }
+    ensures { λ r. ⌜ ReportsRead (now (read .entry)) n (now r) ⌝ }
+{
+    report(&read[0..n], out)
 }
+
+// The functions below only read and write. No contract can speak of what a system call read or wrote, so they have no `ensures`; what is
+// printed for what was read is said by the contract of `report_read`.
 
 // Reads and drops some bytes of standard input; false at its end.
 fn skip_some() -> bool {
@@ -213,11 +221,12 @@ fn skip_rest() {
     }
 }
 
-// The counting program: prints the report on what standard input holds. Of a longer input the first 44 + 32,769 bytes say all
-// (proofs/Answers.antt, report-cut): its list is too long.
+// The counting program: prints the report on what standard input holds.
 pub fn run() {
     let mut input = [0u8; 32813];
     let n = io::read_full(0, &mut input);
     skip_rest();
-    print(&input[..n]);
+    let mut out = [0u8; 256];
+    let text = report_read(&input, n, &mut out);
+    io::write_all(1, text);
 }
