@@ -1,18 +1,19 @@
--- Pole numbers of normal monomials. Among them no two agree, and they are all natural numbers but 1, 2 and 5.
+-- Pole numbers of normal monomials. They are all natural numbers but 1, 2 and 5.
 --   pole i j           the pole number 3i + 4j of x^i·y^j
 --   x-power n, y-power n           the exponents i and j ≤ 2 of the normal monomial of pole number n
---   normal-monomials   the table of the normal monomials of pole number up to 25, with their pole numbers
+--   y-powers, x-poles  the table of the normal monomials of pole number up to 25
+--   y-at n, x-at n     its entry at n
 --   pole-x, pole-y     x-power and y-power are the exponents
---   pole-distinct      normal monomials with the same pole number are the same
 --   Located n, locate  n is the pole number of a normal monomial or a gap
 --   gap-dec            it is decidable which
 --   pole-is-pole, is-pole-pole     the pole numbers of normal monomials are the numbers that are no gaps
-use mathlib.Core.Path.{_≡_, refl, sym, _∙_, ap, subst}
+use mathlib.Core.Path.{_≡_, refl, subst}
 use mathlib.Core.List.{List, [], _∷_}
 use mathlib.Core.Logic.{inl, inr}
 use Prim.Native.Nat.{ℕ, zero, suc, _+_, _*_, _-_, _/_, _%_, _≤_}
 use native.Mathlib.Omega.{arith}
 use native.Mathlib.Decide.{decLe, ℕ-discrete}
+use lib.ListN.{getD}
 use Rattle.ideal.specs.Poles.{IsGap, IsPole}
 
 -- Document 01: "The pole number of x^i·y^j is 3i + 4j."
@@ -25,21 +26,22 @@ y-power n = n % 3
 abbrev pub x-power : ℕ → ℕ
 x-power n = (n - 4 * (n % 3)) / 3
 
--- a normal monomial x^i·y^j with its pole number
-pub record Entry : Type 0 where
-  pub i : ℕ
-  pub j : ℕ
-  pub number : ℕ
+-- The constant table of normal monomials, by pole number. At place n stands the normal monomial x^i·y^j of pole number n: in y-powers its
+-- power of y, which is j, and in x-poles the pole number of its power of x, which is 3·i. At a gap stand 3 and 0. Document 01: "constant table
+-- of normal monomials with pole numbers". The code reads it as Y_POWER and X_POLE of crate vector.
+abbrev pub y-powers : List ℕ
+y-powers =
+    0 ∷ 3 ∷ 3 ∷ 0 ∷ 1 ∷ 3 ∷ 0 ∷ 1 ∷ 2 ∷ 0 ∷ 1 ∷ 2 ∷ 0 ∷ 1 ∷ 2 ∷ 0 ∷ 1 ∷ 2 ∷ 0 ∷ 1 ∷ 2 ∷ 0 ∷ 1 ∷ 2 ∷ 0 ∷ 1 ∷ []
 
-abbrev pub entry : ℕ → ℕ → ℕ → Entry
-entry i j n = record { i = i; j = j; number = n }
+abbrev pub x-poles : List ℕ
+x-poles =
+    0 ∷ 0 ∷ 0 ∷ 3 ∷ 0 ∷ 0 ∷ 6 ∷ 3 ∷ 0 ∷ 9 ∷ 6 ∷ 3 ∷ 12 ∷ 9 ∷ 6 ∷ 15 ∷ 12 ∷ 9 ∷ 18 ∷ 15 ∷ 12 ∷ 21 ∷ 18 ∷ 15 ∷ 24 ∷ 21 ∷ []
 
-abbrev pub normal-monomials : List Entry
-normal-monomials =
-    entry 0 0 0 ∷ entry 1 0 3 ∷ entry 0 1 4 ∷ entry 2 0 6 ∷ entry 1 1 7 ∷ entry 0 2 8
-    ∷ entry 3 0 9 ∷ entry 2 1 10 ∷ entry 1 2 11 ∷ entry 4 0 12 ∷ entry 3 1 13 ∷ entry 2 2 14
-    ∷ entry 5 0 15 ∷ entry 4 1 16 ∷ entry 3 2 17 ∷ entry 6 0 18 ∷ entry 5 1 19 ∷ entry 4 2 20
-    ∷ entry 7 0 21 ∷ entry 6 1 22 ∷ entry 5 2 23 ∷ entry 8 0 24 ∷ entry 7 1 25 ∷ []
+abbrev pub y-at : ℕ → ℕ
+y-at n = getD y-powers n 0
+
+abbrev pub x-at : ℕ → ℕ
+x-at n = getD x-poles n 0
 
 pub pole-y : (i j : ℕ) → j ≤ 2 → y-power (pole i j) ≡ j
 pole-y i zero h = omega arith
@@ -49,11 +51,6 @@ pole-y i (suc (suc (suc j))) h = absurd (omega arith)
 
 pub pole-x : (i j : ℕ) → j ≤ 2 → x-power (pole i j) ≡ i
 pole-x i j h = omega (arith, pole-y i j h)
-
--- Document 01: "Among normal monomials no two pole numbers agree."
-pub pole-distinct : (i j i′ j′ : ℕ) → j ≤ 2 → j′ ≤ 2 → pole i j ≡ pole i′ j′ → (i ≡ i′) × (j ≡ j′)
-pole-distinct i j i′ j′ h h′ e =
-    (sym (pole-x i j h) ∙ ap x-power e ∙ pole-x i′ j′ h′, sym (pole-y i j h) ∙ ap y-power e ∙ pole-y i′ j′ h′)
 
 pub data Located (n : ℕ) : Type 0 where
   place : (i j : ℕ) → j ≤ 2 → n ≡ pole i j → Located n

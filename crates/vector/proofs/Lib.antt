@@ -2,6 +2,7 @@
 pub mod Loop
 pub mod Monomial
 pub mod Element
+pub mod Entry
 pub mod Lead
 pub mod Portion
 pub mod Product

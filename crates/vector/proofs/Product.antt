@@ -2,6 +2,7 @@
 --   First n            the places below n
 --   TimesPart          the loop's invariant
 --   part-start part-more part-skip part-end       its start, its two ways of a turn and its end
+--   turn-asked turn-more turn-skip     what a turn asks, and its two ways, by the table's entry at n
 use mathlib.Core.Path.{_≡_, refl, sym, _∙_, ap, ap₂, subst}
 use mathlib.Core.List.{List}
 use mathlib.Core.Logic.{inl, inr}
@@ -15,10 +16,11 @@ use Rattle.algebra.proofs.Solve.{solve, _⊞_, _⊠_}
 use Rattle.ideal.specs.Poles.{IsGap, IsPole}
 use Rattle.field.specs.Residue.{Z}
 use Rattle.curve.specs.Curve.{Curve, Coordinate}
-use Rattle.curve.specs.Pole.{pole}
+use Rattle.curve.specs.Pole.{pole, y-at, x-at}
 use Rattle.vector.specs.Vector.{Vec, Top, at, row, element, x-to, y-to, scalar}
 use Rattle.vector.specs.Contract.{Added, AxpyAsked, RowsOf, TimesAsked, Times}
 use Rattle.vector.proofs.Loop.{zeros-at}
+use Rattle.vector.proofs.Entry.{entry-class, entry-gap}
 use Rattle.vector.proofs.Element.{element-zero, added-value}
 use Rattle.vector.proofs.Portion.{portion, portion-all, portion-none, portion-same, portion-step}
 
@@ -105,6 +107,15 @@ module _ {p e top n : ℕ} {b : List ℕ} {ys : List (List ℕ)} {r : List ℕ} 
       below : (m : ℕ) → IsPole m → m < n + 1 → Dec (m ≡ n) → m < n
       below m w k (yes d) = absurd (w (subst IsGap (sym d) (gap-of n q)))
       below m w k (no d) = omega arith
+
+  pub turn-asked : y-at n < 3 → AxpyAsked p r (at b n) (row ys (y-at n)) (x-at n) (top + 4 * y-at n)
+  turn-asked k = let (y, x, q) = entry-class n (omega (arith, h .inside)) k in rw (x, y) (part-asked q)
+
+  pub turn-more : {r′ : List ℕ} → y-at n < 3 → Added p r (at b n) (row ys (y-at n)) (x-at n) (top + 4 * y-at n) r′ → TimesPart p b (n + 1) ys top r′
+  turn-more k a = let (y, x, q) = entry-class n (omega (arith, h .inside)) k in part-more q (rw (sym x, sym y) a)
+
+  pub turn-skip : 3 ≤ y-at n → TimesPart p b (n + 1) ys top r
+  turn-skip k = part-skip (entry-gap n (omega (arith, h .inside)) k)
 
 pub part-as : {p n top : ℕ} {b : List ℕ} {ys : List (List ℕ)} {r r′ : List ℕ} → r′ ≡ r → TimesPart p b n ys top r → TimesPart p b n ys top r′
 part-as {p} {n} {top} {b} {ys} e t = subst (λ l. TimesPart p b n ys top l) (sym e) t

@@ -1,10 +1,14 @@
 // Vectors of residues modulo p, indexed by pole number. A vector is 26 numbers below p, 0 at the places 1, 2 and 5.
 // The vector that a loop works on is lent, and loops end at the degree.
+mod normal;
+
 ghost use mathlib.Core.Path.{_≡_};
 ghost use lib.ListN.{length};
 ghost use Rattle.field.specs.Contract.{Is};
 ghost use Rattle.vector.specs.Vector.{width};
 ghost use Rattle.vector.specs.Contract.{AxpyAsked, Added, ClearAsked, Cleared, MonicAsked, MadeMonic, TimesYAsked, TimesY, YMultiplesAsked, YMultiples, TimesAsked, Times, DotAsked, pairing, ZeroTest, ScaleAsked, Scaled, ShiftAsked, Shifted};
+use crate::normal::X_POLE;
+use crate::normal::Y_POWER;
 
 // c·x^(s/3)·b added to r, for b below e.
 pub fn axpy(p: u32, r: &mut [u32; 26], c: u32, b: &[u32; 26], s: usize, e: usize)
@@ -79,13 +83,14 @@ pub fn times(p: u32, b: &[u32; 26], e: usize, ys: &[[u32; 26]; 3], top: usize) -
     requires { ⌜ TimesAsked p (now b) e (now ys) top ⌝ }
     ensures { λ r. ⌜ Times p (now (b .entry)) e (now (ys .entry)) top r ⌝ }
 {
+    let powers = Y_POWER;
+    let poles = X_POLE;
     let mut out = [0u32; 26];
     let mut n = 0;
     while n < e {
-        let j = n % 3;
-        let q = 4 * j;
-        if q <= n {
-            axpy(p, &mut out, b[n], &ys[j], n - q, top + q);
+        let j = powers[n] as usize;
+        if j < 3 {
+            axpy(p, &mut out, b[n], &ys[j], poles[n] as usize, top + 4 * j);
         }
         n += 1;
     }
@@ -133,16 +138,18 @@ fn scale(p: u32, v: &mut [u32; 26], c: u32, e: usize)
     }
 }
 
-// The part of y·v that comes from the classes 0 and 1 modulo 3: v[n] at n + 4.
+// The part of y·v that comes from the classes 0 and 1 modulo 3: v[n] at n + 4, unless a power of x stands there.
 fn shift_y(v: &[u32; 26], top: usize) -> [u32; 26]
     requires { ⌜ ShiftAsked (now v) top ⌝ }
     ensures { λ r. ⌜ Shifted (now (v .entry)) top r ⌝ }
 {
+    let powers = Y_POWER;
     let mut out = [0u32; 26];
     let mut n = 0;
     while n < top {
-        if n % 3 != 2 {
-            out[n + 4] = v[n];
+        let m = n + 4;
+        if powers[m] != 0 {
+            out[m] = v[n];
         }
         n += 1;
     }
