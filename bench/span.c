@@ -5,6 +5,11 @@
 
 uint64_t count_mul, count_inv;
 
+/* The normal monomial x^i y^j of each pole number: j, and 3 * i; at the gaps 1, 2 and 5 they are 3 and 0. */
+static const uint8_t y_power[26] = {0, 3, 3, 0, 1, 3, 0, 1, 2, 0, 1, 2, 0, 1, 2, 0, 1, 2, 0, 1, 2, 0, 1, 2, 0, 1};
+static const uint8_t x_pole[26] = {0, 0,  0, 3,  0, 0,  6,  3,  0,  9,  6,  3,  12,
+                                   9, 6, 15, 12, 9, 18, 15, 12, 21, 18, 15, 24, 21};
+
 /* ---- vectors ---- */
 
 void zero(uint32_t v[26])
@@ -46,7 +51,7 @@ static void shift_y(const uint32_t v[26], unsigned top, uint32_t out[26])
 {
     zero(out);
     for (unsigned n = 0; n < top; n++)
-        if (n % 3 != 2)
+        if (y_power[n + 4] != 0)
             out[n + 4] = v[n];
 }
 
@@ -74,7 +79,7 @@ static void times(uint32_t p, const uint32_t b[26], unsigned e, const uint32_t y
     zero(out);
     for (unsigned n = 0; n < e; n++)
         if (b[n] != 0)
-            axpy(p, out, b[n], ys[n % 3], n - 4 * (n % 3), top + 4 * (n % 3));
+            axpy(p, out, b[n], ys[y_power[n]], x_pole[n], top + 4 * y_power[n]);
 }
 
 /* ---- triples ---- */
