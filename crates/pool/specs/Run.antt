@@ -89,5 +89,7 @@ pub record Ran (c : List ℕ) (rs : List (List ℕ)) (cs s′ : List ℕ) (r : �
   pub held : Held s′ (pool-of calls rs)
   pub left : length (pool-of calls rs) ≡ r
 
+-- Left open: after the calls the bytes of a slot behind its record, and the slots from the count r on, may hold anything. The length of the
+-- memory stays, as that of every lent slice does.
 abbrev pub RunMade : (c s : List ℕ) (n : ℕ) (cs s′ : List ℕ) (r : ℕ) → Type 0
 RunMade c s n cs s′ r = (t : List ℕ) (rs : List (List ℕ)) → Given c s n t rs → (h : Ran c rs cs s′ r) × PoolEnd c rs (h .calls)

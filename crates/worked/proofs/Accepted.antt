@@ -5,15 +5,16 @@
 --   singular c k       the test; singular-sound: the curve c is refused with 5
 --   Known              certificate of an accepted record: its kind, and how y times each member is made of the members
 --   known c w k        the test; known-reads, known-record: the record w is accepted on the curve c
---   Spoilt             certificate of a record that is no basis: its kind, and how 1 is made of its polynomials
---   spoilt c w k       the test; spoilt-sound: the record w is refused with 9
+--   Fault              why a record of its kind's form is refused: a number not below p; or no basis, and how 1 is made of its polynomials
+--   Spoilt             certificate of a refused record: its kind and its fault
+--   spoilt c w n k     the test; spoilt-sound: the record w is refused with n, which is 8 or 9
 use mathlib.Core.Path.{_≡_, refl, sym, subst}
 use mathlib.Core.Logic.{inl, inr}
 use mathlib.Core.Bool.{Bool}
 use mathlib.Core.List.{List, [], _∷_, _++_}
 use Prim.Native.Nat.{ℕ, _+_, _*_, _≤_, _<_}
 use native.Mathlib.Omega.{arith}
-use lib.Dec.{T, leb, eqb, leb→le, eqb→eq}
+use lib.Dec.{T, leb, ltb, eqb, leb→le, ltb→lt, eqb→eq}
 use lib.ListN.{length, getD}
 use Rattle.algebra.specs.Ring.{CommRing}
 use Rattle.algebra.proofs.Norm.{E, unit, both}
@@ -25,13 +26,15 @@ use Rattle.curve.specs.Curve.{Coordinate}
 use Rattle.nonsingular.specs.Nonsingular.{Nonsingular}
 use Rattle.nonsingular.specs.Derivative.{derivative-x, derivative-y}
 use Rattle.nonsingular.proofs.Nonsingular.{nonsingular}
-use Rattle.divisor.specs.Kind.{Kind, code, count, size, polynomials, IdealOf, IsBasis}
+use Rattle.divisor.specs.Kind.{Kind, code, count, size, polynomials, IdealOf}
 use Rattle.layout.specs.Layout.{number2, number4}
-use Rattle.record.specs.Cause.{FirstCause}
+use Rattle.record.specs.Cause.{FirstCause, Passes}
 use Rattle.record.specs.Curve.{limit, curve-kind, curve-size, modulus, coefficient-number, equation, curve-stages, AcceptedCurve}
-use Rattle.record.specs.Divisor.{of-kind, number-at}
+use Rattle.record.specs.Contract.{divisor-form}
+use Rattle.record.specs.Divisor.{of-kind}
 use Rattle.record.proofs.Cause.{first-append}
 use Rattle.record.proofs.Accepted.{Reads, reads-accepted, same-kind}
+use Rattle.record.proofs.DivisorReader.{divisor-rest}
 use Rattle.calls.specs.Class.{Record}
 use Rattle.calls.specs.Call.{divisor-of}
 use Rattle.worked.proofs.Tests.{both-left, both-right, prime, prime-sound, below, below-sound, bytes, bytes-sound}
@@ -54,9 +57,15 @@ pub record Known : Type 0 where
   pub kind : Kind
   pub closed : List (List E)
 
+pub data Fault : Type 0 where
+  -- its i-th number is not below p
+  too-large : (i : ℕ) → Fault
+  -- 1 is the sum of the products of qs and its polynomials
+  no-basis : (qs : List E) → Fault
+
 pub record Spoilt : Type 0 where
   pub kind : Kind
-  pub one : List E
+  pub fault : Fault
 
 -- the numbers of a divisor record in bytes
 abbrev pub numbers-of : List ℕ → ℕ → ℕ
@@ -89,16 +98,26 @@ singular c k =
     both (ground c)
     (both (proper (k .kind)) (both (closed (modulus c) (coefficient-number c) (k .kind) (given k) (k .closed)) (both (holds-x c k) (holds-y c k))))
 
--- a record passes the stages before 9
-abbrev shaped : ℕ → List ℕ → Kind → Bool
-shaped p w κ =
-    both (eqb (number2 w 2) (code κ)) (both (eqb (number2 w 0) (length w)) (both (eqb (length w) (size κ)) (below p (numbers-of w) (count κ))))
+-- a record passes the stages before 8, and the stage 8
+abbrev formed : List ℕ → Kind → Bool
+formed w κ = both (eqb (number2 w 2) (code κ)) (both (eqb (number2 w 0) (length w)) (eqb (length w) (size κ)))
+
+abbrev low : ℕ → List ℕ → Kind → Bool
+low p w κ = below p (numbers-of w) (count κ)
 
 abbrev pub known : List ℕ → List ℕ → Known → Bool
-known c w k = both (bytes w) (both (shaped (modulus c) w (k .kind)) (closed (modulus c) (coefficient-number c) (k .kind) (numbers-of w) (k .closed)))
+known c w k =
+    both (bytes w)
+    (both (formed w (k .kind))
+    (both (low (modulus c) w (k .kind)) (closed (modulus c) (coefficient-number c) (k .kind) (numbers-of w) (k .closed))))
 
-abbrev pub spoilt : List ℕ → List ℕ → Spoilt → Bool
-spoilt c w k = both (shaped (modulus c) w (k .kind)) (whole (modulus c) (coefficient-number c) (k .kind) (numbers-of w) (k .one))
+-- a record that passes the stages before 8 has the fault, and its number is n
+abbrev faulty : (c w : List ℕ) → ℕ → Kind → Fault → Bool
+faulty c w n κ (too-large i) = both (eqb n 8) (both (ltb i (count κ)) (leb (modulus c) (numbers-of w i)))
+faulty c w n κ (no-basis qs) = both (eqb n 9) (both (low (modulus c) w κ) (whole (modulus c) (coefficient-number c) κ (numbers-of w) qs))
+
+abbrev pub spoilt : (c w : List ℕ) → ℕ → Spoilt → Bool
+spoilt c w n k = both (formed w (k .kind)) (faulty c w n (k .kind) (k .fault))
 
 record Ground (c : List ℕ) : Type 0 where
   long : 4 ≤ length c
@@ -185,58 +204,79 @@ module _ (c : List ℕ) where
       go : Ground c → FirstCause (curve-stages c) 5
       go g = inr ((g .long, g .own), inr (g .kind, inr (g .size, inr ((g .is-prime, g .small), inr (g .coefficients, inl (refused g, refl))))))
 
-  record Shaped (w : List ℕ) (κ : Kind) : Type 0 where
+  record Formed (w : List ℕ) (κ : Kind) : Type 0 where
     kind : of-kind w κ
     own : number2 w 0 ≡ length w
     long : length w ≡ size κ
-    low : (i : ℕ) → i < count κ → number4 w (4 + 4 * i) < modulus c
 
-  shaped-sound : (w : List ℕ) (κ : Kind) → T (shaped p w κ) → Shaped w κ
-  shaped-sound w κ t =
+  formed-sound : (w : List ℕ) (κ : Kind) → T (formed w κ) → Formed w κ
+  formed-sound w κ t =
       let t₁ = both-right (eqb (number2 w 2) (code κ)) _ t in
-      let t₂ = both-right (eqb (number2 w 0) (length w)) _ t₁ in
       record {
         kind = eqb→eq (number2 w 2) (code κ) (both-left (eqb (number2 w 2) (code κ)) _ t);
         own = eqb→eq (number2 w 0) (length w) (both-left (eqb (number2 w 0) (length w)) _ t₁);
-        long = eqb→eq (length w) (size κ) (both-left (eqb (length w) (size κ)) _ t₂);
-        low = below-sound p (numbers-of w) (count κ) (both-right (eqb (length w) (size κ)) _ t₂);
+        long = eqb→eq (length w) (size κ) (both-right (eqb (number2 w 0) (length w)) _ t₁);
       }
+
+  low-sound : (w : List ℕ) (κ : Kind) → T (low p w κ) → (i : ℕ) → i < count κ → number4 w (4 + 4 * i) < modulus c
+  low-sound w κ t = below-sound p (numbers-of w) (count κ) t
 
   module _ (h : Prime (modulus c)) (w : List ℕ) where
     pub known-reads : (k : Known) → T (known c w k) → Reads (modulus c) (equation c) (k .kind) w
     known-reads k t =
-        let s = shaped-sound w (k .kind) (both-left (shaped p w (k .kind)) _ (both-right (bytes w) _ t)) in
+        let t₁ = both-right (bytes w) _ t in
+        let t₂ = both-right (formed w (k .kind)) _ t₁ in
+        let f = formed-sound w (k .kind) (both-left (formed w (k .kind)) _ t₁) in
         record {
-          kind = s .kind;
-          own = s .own;
-          long = s .long;
-          below = s .low;
-          basis = basis-sound p n h (k .kind) (numbers-of w) (k .closed) (both-right (shaped p w (k .kind)) _ (both-right (bytes w) _ t));
+          kind = f .kind;
+          own = f .own;
+          long = f .long;
+          below = low-sound w (k .kind) (both-left (low p w (k .kind)) _ t₂);
+          basis = basis-sound p n h (k .kind) (numbers-of w) (k .closed) (both-right (low p w (k .kind)) _ t₂);
         }
 
     pub known-record : (k : Known) → T (known c w k) → Record c w
     known-record k t = (bytes-sound w (both-left (bytes w) _ t), reads-accepted p (equation c) (k .kind) w (known-reads k t))
 
-    pub spoilt-sound : (k : Spoilt) → AcceptedCurve c → T (spoilt c w k) → FirstCause (curve-stages c ++ divisor-of c w) 9
-    spoilt-sound k A t =
-        first-append (curve-stages c) (divisor-of c w) 9 .1 (inr (A, go (shaped-sound w (k .kind) (both-left (shaped p w (k .kind)) _ t))))
-      where
-        spoils : Shaped w (k .kind) → ¬ ((κ : Kind) → of-kind w κ → IsBasis (equation c) κ (number-at (modulus c) w))
-        spoils s b =
-            whole-sound p n h (k .kind) (numbers-of w) (k .one) (both-right (shaped p w (k .kind)) _ t) (b (k .kind) (s .kind))
+    -- what holds for the record's kind, holds for every kind of it
+    of-its-kind : (κ : Kind) → of-kind w κ → (A : Kind → Type 0) → A κ → (κ′ : Kind) → of-kind w κ′ → A κ′
+    of-its-kind κ e A a κ′ e′ = subst A (same-kind w κ κ′ e e′) a
 
-        go : Shaped w (k .kind) → FirstCause (divisor-of c w) 9
-        go s =
-            inr (
-              (omega (arith, s .long), s .own),
-              inr (
-                (k .kind, s .kind),
-                inr (
-                  λ κ e. subst (λ (q : Kind). length w ≡ size q) (same-kind w (k .kind) κ (s .kind) e) (s .long),
-                  inr (
-                    λ κ e. subst (λ (q : Kind). (i : ℕ) → i < count q → numbers-of w i < p) (same-kind w (k .kind) κ (s .kind) e) (s .low),
-                    inl (spoils s, refl),
-                  ),
-                ),
-              ),
-            )
+    too-large-sound : (m : ℕ) (κ : Kind) (i : ℕ) → of-kind w κ → T (faulty c w m κ (too-large i))
+        → FirstCause (divisor-rest (modulus c) (equation c) w) m
+    too-large-sound m κ i e t =
+        let t₁ = both-right (eqb m 8) _ t in
+        let inside = ltb→lt i (count κ) (both-left (ltb i (count κ)) _ t₁) in
+        let large = leb→le p (numbers-of w i) (both-right (ltb i (count κ)) _ t₁) in
+        inl (λ f. omega (arith, f κ e i inside, large), eqb→eq m 8 (both-left (eqb m 8) _ t))
+
+    no-basis-sound : (m : ℕ) (κ : Kind) (qs : List E) → of-kind w κ → T (faulty c w m κ (no-basis qs))
+        → FirstCause (divisor-rest (modulus c) (equation c) w) m
+    no-basis-sound m κ qs e t =
+        let t₁ = both-right (eqb m 9) _ t in
+        let below-p = low-sound w κ (both-left (low p w κ) _ t₁) in
+        inr (
+          of-its-kind κ e (λ q. (i : ℕ) → i < count q → numbers-of w i < p) below-p,
+          inl (
+            λ f. whole-sound p n h κ (numbers-of w) qs (both-right (low p w κ) _ t₁) (f κ e),
+            eqb→eq m 9 (both-left (eqb m 9) _ t),
+          ),
+        )
+
+    fault-sound : (m : ℕ) (κ : Kind) (k : Fault) → of-kind w κ → T (faulty c w m κ k)
+        → FirstCause (divisor-rest (modulus c) (equation c) w) m
+    fault-sound m κ (too-large i) e t = too-large-sound m κ i e t
+    fault-sound m κ (no-basis qs) e t = no-basis-sound m κ qs e t
+
+    pub spoilt-sound : (m : ℕ) (k : Spoilt) → AcceptedCurve c → T (spoilt c w m k) → FirstCause (curve-stages c ++ divisor-of c w) m
+    spoilt-sound m k A t = go (formed-sound w (k .kind) (both-left (formed w (k .kind)) _ t))
+      where
+        go : Formed w (k .kind) → FirstCause (curve-stages c ++ divisor-of c w) m
+        go f =
+            let form : Passes (divisor-form w) = (
+              (omega (arith, f .long), f .own),
+              ((k .kind, f .kind), (of-its-kind (k .kind) (f .kind) (λ q. length w ≡ size q) (f .long), tt)),
+            ) in
+            let rest = fault-sound m (k .kind) (k .fault) (f .kind) (both-right (formed w (k .kind)) _ t) in
+            first-append (curve-stages c) (divisor-of c w) m .1
+            (inr (A, first-append (divisor-form w) (divisor-rest p (equation c) w) m .1 (inr (form, rest))))

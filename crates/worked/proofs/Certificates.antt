@@ -2,16 +2,17 @@
 --   on-E, on-D                     s and t with s·Fx + t·Fy = 1
 --   point-1 … twice-origin         how y times each member of a record is made of its members, with factors in x
 --   join-2 … join-origin           how the product of two records' ideals and the ideal of their sum hold each other, up to α and β
---   over-x, not-origin, not-line, node-2, node-3   a negative, a record that is no basis, singular points
---   certificates                   one for each row of the table, the next one behind &
+--   over-x, node-2, node-3, node-outside           a negative, singular points
+--   not-origin … not-outside, first-large, second-large    records that are no basis, or have a number not below p
+--   certificates, trap-certificates    one for each row of the tables, the next one behind &
 use mathlib.Core.List.{List, [], _∷_}
 use Rattle.algebra.proofs.Norm.{E, num, nil, unit}
 use Rattle.algebra.proofs.Solve.{_⊞_, _⊠_, _^^_}
 use Rattle.ideal.proofs.Every.{Every}
 use Rattle.divisor.specs.Kind.{Kind, k0, k11, k21, k22, k31}
-use Rattle.worked.specs.Table.{divisor, table}
+use Rattle.worked.specs.Table.{divisor, table, traps}
 use Rattle.worked.proofs.Vanish.{x, y}
-use Rattle.worked.proofs.Accepted.{Smooth, Singular, Known, Spoilt}
+use Rattle.worked.proofs.Accepted.{Smooth, Singular, Known, Spoilt, too-large, no-basis}
 use Rattle.worked.proofs.Link.{Link}
 use Rattle.worked.proofs.Rows.{Step, Certificate}
 
@@ -114,6 +115,15 @@ difference =
     ((num 2 ∷ (x ⊞ num 4) ∷ nil ∷ [])
     ∷ (num 3 ∷ num 4 ∷ x ∷ [])
     ∷ ((num 4 ⊠ x ^^ 2 ⊞ num 4 ⊠ x ⊞ num 4) ∷ num 2 ∷ num 4 ∷ [])
+    ∷ [])
+
+-- 21: 0 0 2 0
+abbrev outside : Known
+outside =
+    known-as k21
+    ((nil ∷ (x ^^ 2 ⊞ num 2) ∷ nil ∷ [])
+    ∷ (nil ∷ nil ∷ unit ∷ [])
+    ∷ ((num 4 ⊠ x ^^ 2 ⊞ num 2) ∷ nil ∷ nil ∷ [])
     ∷ [])
 
 -- the zero class on E
@@ -266,14 +276,31 @@ join-zero =
 abbrev over-x : List E
 over-x = x ∷ (y ⊞ unit) ∷ (y ^^ 2 ⊞ num 4 ⊠ y ⊞ unit) ∷ (num 4 ⊠ x ^^ 3) ∷ []
 
--- 1 is made of the polynomials of 11: 0 0 and of 21: 3 0 0 0 on E
+-- 1 is made of the polynomials of 11: 0 0, of 21: 3 0 0 0, of 11: 4 4 and of 21: 4 0 2 0 on E
 abbrev not-origin : Spoilt
-not-origin = record { kind = k11; one = (num 4 ⊠ x ^^ 3) ∷ (num 4 ⊠ y ^^ 2) ∷ [] }
+not-origin = record { kind = k11; fault = no-basis ((num 4 ⊠ x ^^ 3) ∷ (num 4 ⊠ y ^^ 2) ∷ []) }
 
 abbrev not-line : Spoilt
-not-line = record { kind = k21; one = (y ^^ 2 ⊞ num 2 ⊠ y ⊞ num 4) ∷ (x ^^ 2) ∷ [] }
+not-line = record { kind = k21; fault = no-basis ((y ^^ 2 ⊞ num 2 ⊠ y ⊞ num 4) ∷ (x ^^ 2) ∷ []) }
 
--- the singular points of y³ + x⁴ + 1: (1, 0) for p = 2 and (0, 2) for p = 3
+abbrev not-one-one : Spoilt
+not-one-one =
+    record {
+      kind = k11;
+      fault = no-basis ((num 3 ⊠ x ^^ 3 ⊞ num 3 ⊠ x ^^ 2 ⊞ num 3 ⊠ x ⊞ num 3) ∷ (num 3 ⊠ y ^^ 2 ⊞ num 3 ⊠ y ⊞ num 3) ∷ []);
+    }
+
+abbrev not-outside : Spoilt
+not-outside = record { kind = k21; fault = no-basis ((num 4 ⊠ y ^^ 2 ⊞ num 4 ⊠ y ⊞ num 4) ∷ (num 4 ⊠ x ^^ 2 ⊞ num 2) ∷ []) }
+
+-- the first, the second number of a record 11 is not below p
+abbrev first-large : Spoilt
+first-large = record { kind = k11; fault = too-large 0 }
+
+abbrev second-large : Spoilt
+second-large = record { kind = k11; fault = too-large 1 }
+
+-- the singular points of y³ + x⁴ + 1: (1, 0) for p = 2 and (0, 2) for p = 3; those of y³ + x⁴ + x² + 1 for p = 2, as 21: 0 0 1 1
 abbrev node-2 : Singular
 node-2 =
     record {
@@ -300,6 +327,20 @@ node-3 =
           ∷ [];
       by-x = (x ^^ 2) ∷ nil ∷ [];
       by-y = nil ∷ nil ∷ [];
+    }
+
+abbrev node-outside : Singular
+node-outside =
+    record {
+      kind = k21;
+      numbers = 0 ∷ 0 ∷ 1 ∷ 1 ∷ [];
+      closed =
+          (nil ∷ (x ^^ 2 ⊞ x ⊞ unit) ∷ nil ∷ [])
+          ∷ (nil ∷ nil ∷ unit ∷ [])
+          ∷ ((x ^^ 2 ⊞ x ⊞ unit) ∷ nil ∷ nil ∷ [])
+          ∷ [];
+      by-x = nil ∷ nil ∷ [];
+      by-y = y ∷ nil ∷ [];
     }
 
 -- the steps to 2P and 3P, and to twice (0, 0) on D
@@ -330,6 +371,11 @@ certificates =
     & (on-E, point-1, thrice-P, difference, join-difference)
     & (on-E, not-origin)
     & (on-E, not-line)
+    & (on-E, first-large)
+    & (on-E, second-large)
+    & (on-E, first-large)
+    & (on-E, point-1)
+    & (on-E, not-one-one)
     & node-2
     & node-3
     & on-D
@@ -338,3 +384,6 @@ certificates =
     & (on-D, origin, [], twice-origin, join-origin)
     & (on-D, origin, to-origin ∷ [], zero-D, join-zero)
     & tt
+
+abbrev pub trap-certificates : Every Certificate traps
+trap-certificates = node-outside & (on-E, not-outside) & (on-E, outside) & tt

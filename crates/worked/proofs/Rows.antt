@@ -25,7 +25,7 @@ use Rattle.calls.proofs.Class.{Accepted}
 use Rattle.calls.proofs.Multiples.{list-single, multiple-add}
 use Rattle.calls.proofs.Exists.{one-passes, two-passes}
 use Rattle.calls.proofs.Determined.{check-curve-determined, check-divisor-determined, sum-determined, double-determined, negative-determined, multiple-determined}
-use Rattle.worked.specs.Table.{Row, point, sum, double, negative, multiple, divisor-refused, curve-refused, curve-accepted, Means, Answer}
+use Rattle.worked.specs.Table.{Row, point, sum, double, negative, multiple, divisor-refused, divisor-accepted, curve-refused, curve-accepted, Means, Answer}
 use Rattle.worked.proofs.Tests.{both-left, both-right}
 use Rattle.worked.proofs.Accepted.{Smooth, smooth, curve-sound, Singular, singular, singular-sound, Known, known, known-reads, known-record, Spoilt, spoilt, spoilt-sound}
 use Rattle.worked.proofs.Link.{Link, link, sum-sound}
@@ -43,6 +43,7 @@ Certificate (double c a w) = Smooth × Known × Known × Link
 Certificate (negative c a w) = Smooth × Known × Known × List E
 Certificate (multiple c a n w) = Smooth × Known × List Step × Known × Link
 Certificate (divisor-refused c a n) = Smooth × Spoilt
+Certificate (divisor-accepted c a) = Smooth × Known
 Certificate (curve-refused c n) = Singular
 Certificate (curve-accepted c) = Smooth
 
@@ -62,7 +63,8 @@ test (double c a w) k = both (smooth c (k .0)) (both (known c a (k .1)) (added c
 test (negative c a w) k = both (smooth c (k .0)) (both (known c a (k .1)) (both (known c w (k .2)) (negated c a w (k .1 .kind) (k .2 .kind) (k .3))))
 test (multiple c a n w) k =
     both (smooth c (k .0)) (both (known c a (k .1)) (both (eqb n (2 + length (k .2))) (chain c a a (k .1) (k .1) (k .2) w (k .3) (k .4))))
-test (divisor-refused c a n) k = both (smooth c (k .0)) (both (eqb n 9) (spoilt c a (k .1)))
+test (divisor-refused c a n) k = both (smooth c (k .0)) (spoilt c a n (k .1))
+test (divisor-accepted c a) k = both (smooth c (k .0)) (known c a (k .1))
 test (curve-refused c n) k = both (eqb n 5) (singular c k)
 test (curve-accepted c) k = smooth c k
 
@@ -141,9 +143,10 @@ means-sound (multiple c a n w) k t =
     (A, r, subst (λ (i : ℕ). IsListSum c (replicate i a) w) e′ s)
 means-sound (divisor-refused c a n) k t =
     let A = curve-sound c (k .0) (both-left (smooth c (k .0)) _ t) in
-    let t₁ = both-right (smooth c (k .0)) _ t in
-    subst (FirstCause (curve-stages c ++ divisor-of c a)) (sym (eqb→eq n 9 (both-left (eqb n 9) _ t₁)))
-    (spoilt-sound c (h c A) a (k .1) A (both-right (eqb n 9) _ t₁))
+    spoilt-sound c (h c A) a n (k .1) A (both-right (smooth c (k .0)) _ t)
+means-sound (divisor-accepted c a) k t =
+    let A = curve-sound c (k .0) (both-left (smooth c (k .0)) _ t) in
+    (A, known-record c (h c A) a (k .1) (both-right (smooth c (k .0)) _ t))
 means-sound (curve-refused c n) k t =
     subst (FirstCause (curve-stages c)) (sym (eqb→eq n 5 (both-left (eqb n 5) _ t))) (singular-sound c k (both-right (eqb n 5) _ t))
 means-sound (curve-accepted c) k t = curve-sound c k t
@@ -170,6 +173,7 @@ answer (multiple c a n w) (A, ra, s) =
     λ out r out′ l e.
     multiple-determined c out a (pos n) r (pos (length w)) out′ (w ++ drop (length w) out) e (written w (one-buffer c A a (ra .1) out l) s refl refl)
 answer (divisor-refused c a n) f = λ r e. check-divisor-determined c a r (minus n) e (refused n f refl)
+answer (divisor-accepted c a) (A, ra) = λ r e. check-divisor-determined c a r (pos 1) e (answered (one-passes c A a (ra .1)) refl)
 answer (curve-refused c n) f = λ r e. check-curve-determined c r (minus n) e (refused n f refl)
 answer (curve-accepted c) A = λ r e. check-curve-determined c r (pos 1) e (answered A refl)
 

@@ -1,9 +1,10 @@
 -- Tests by computation, and what they show.
 --   both-left, both-right, of-either, either   the parts of a test
---   prime p            p is a prime
+--   all-below f k      the test f passes at 0, …, k − 1
 --   below p f k        f 0, …, f (k − 1) are below p
+--   prime p            p is a prime
 --   bytes s            every element of s is below 256
-use mathlib.Core.Path.{_≡_, sym, ap, subst}
+use mathlib.Core.Path.{_≡_, sym, subst}
 use mathlib.Core.Bool.{Bool, true, false}
 use mathlib.Core.Logic.{_⊎_, inl, inr}
 use mathlib.Core.List.{List, [], _∷_}
@@ -31,17 +32,23 @@ pub of-either : (a b : Bool) → T (either a b) → T a ⊎ T b
 of-either true b t = inl tt
 of-either false b t = inr t
 
+abbrev pub all-below : (ℕ → Bool) → ℕ → Bool
+all-below f zero = true
+all-below f (suc k) = both (f k) (all-below f k)
+
+pub all-below-sound : (f : ℕ → Bool) (k : ℕ) → T (all-below f k) → (i : ℕ) → i < k → T (f i)
+all-below-sound f zero t i h = absurd (omega arith)
+all-below-sound f (suc k) t i h = go (ℕ-discrete i k) (all-below-sound f k (both-right (f k) (all-below f k) t) i)
+  where
+    go : Dec (i ≡ k) → (i < k → T (f i)) → T (f i)
+    go (yes e) r = subst (λ (j : ℕ). T (f j)) (sym e) (both-left (f k) (all-below f k) t)
+    go (no e) r = r (omega arith)
+
 abbrev pub below : ℕ → (ℕ → ℕ) → ℕ → Bool
-below p f zero = true
-below p f (suc k) = both (ltb (f k) p) (below p f k)
+below p f k = all-below (λ i. ltb (f i) p) k
 
 pub below-sound : (p : ℕ) (f : ℕ → ℕ) (k : ℕ) → T (below p f k) → (i : ℕ) → i < k → f i < p
-below-sound p f zero t i h = absurd (omega arith)
-below-sound p f (suc k) t i h = go (ℕ-discrete i k) (below-sound p f k (both-right (ltb (f k) p) (below p f k) t) i)
-  where
-    go : Dec (i ≡ k) → (i < k → f i < p) → f i < p
-    go (yes e) r = subst (λ (j : ℕ). f j < p) (sym e) (ltb→lt (f k) p (both-left (ltb (f k) p) (below p f k) t))
-    go (no e) r = r (omega arith)
+below-sound p f k t i h = ltb→lt (f i) p (all-below-sound (λ j. ltb (f j) p) k t i h)
 
 abbrev pub bytes : List ℕ → Bool
 bytes [] = true
@@ -52,30 +59,23 @@ bytes-sound [] t i = omega arith
 bytes-sound (b ∷ s) t zero = ltb→lt b 256 (both-left (ltb b 256) (bytes s) t)
 bytes-sound (b ∷ s) t (suc i) = bytes-sound s (both-right (ltb b 256) (bytes s) t) i
 
--- none of the numbers from 2 to k − 1 divides p
+-- d is 0 or 1, or does not divide p
 abbrev undivided : ℕ → ℕ → Bool
-undivided p zero = true
-undivided p (suc k) = both (either (leb k 1) (ltb 0 (p % k))) (undivided p k)
+undivided p d = either (leb d 1) (ltb 0 (p % d))
 
-undivided-sound : (p k : ℕ) → T (undivided p k) → (d : ℕ) → 1 < d → d < k → p % d ≡ 0 → ⊥
-undivided-sound p zero t d l m e = omega arith
-undivided-sound p (suc k) t d l m e =
-    go (ℕ-discrete d k) (λ m′. undivided-sound p k (both-right (either (leb k 1) (ltb 0 (p % k))) (undivided p k) t) d l m′ e)
+undivided-sound : (p d : ℕ) → T (undivided p d) → 1 < d → p % d ≡ 0 → ⊥
+undivided-sound p d t l e = go (of-either (leb d 1) (ltb 0 (p % d)) t)
   where
-    here : d ≡ k → T (leb k 1) ⊎ T (ltb 0 (p % k)) → ⊥
-    here q (inl s) = omega (arith, leb→le k 1 s)
-    here q (inr s) = omega (arith, ltb→lt 0 (p % k) s, ap (λ (j : ℕ). p % j) q)
-
-    go : Dec (d ≡ k) → (d < k → ⊥) → ⊥
-    go (yes q) r = here q (of-either (leb k 1) (ltb 0 (p % k)) (both-left (either (leb k 1) (ltb 0 (p % k))) (undivided p k) t))
-    go (no q) r = r (omega arith)
+    go : T (leb d 1) ⊎ T (ltb 0 (p % d)) → ⊥
+    go (inl s) = omega (arith, leb→le d 1 s)
+    go (inr s) = omega (arith, ltb→lt 0 (p % d) s)
 
 abbrev pub prime : ℕ → Bool
-prime p = both (leb 2 p) (undivided p p)
+prime p = both (leb 2 p) (all-below (undivided p) p)
 
 pub prime-sound : (p : ℕ) → T (prime p) → Prime p
 prime-sound p t =
     record {
-      two-le = leb→le 2 p (both-left (leb 2 p) (undivided p p) t);
-      only = undivided-sound p p (both-right (leb 2 p) (undivided p p) t);
+      two-le = leb→le 2 p (both-left (leb 2 p) _ t);
+      only = λ d l m e. undivided-sound p d (all-below-sound (undivided p) p (both-right (leb 2 p) _ t) d m) l e;
     }

@@ -1,11 +1,12 @@
--- Document 01, "Worked sums": the starred ones, as one table, and what each of them says.
---   curve p c0 c1      the bytes of the curve y³ + x⁴ + c1·x + c0 for the prime p
+-- Document 01, "Worked sums": the starred ones, as one table, and what each of them says; and a second table for one of the traps.
+--   curve p c0 c1 c3   the bytes of the curve y³ + x⁴ + c3·x² + c1·x + c0 for the prime p
 --   divisor κ ns       the bytes of a divisor record
 --   Row                a worked sum: the curve's bytes c, the inputs, the result w or the number n of the refusal
 --   Means r            what it says by the definitions of a sum, of a negative and so on, and of a refusal
 --   Answer r           … and what the call then returns and leaves, whichever way it is carried out
 --   E, one-two, P, D   the curves and points that they speak of
 --   table              the starred sums, in the order of document 01
+--   traps              singular points and bases outside the field
 use mathlib.Core.Path.{_≡_}
 use mathlib.Core.List.{List, [], _∷_, _++_}
 use Prim.Native.Nat.{ℕ, _≤_}
@@ -22,8 +23,8 @@ use Rattle.calls.specs.Answer.{minus}
 use Rattle.calls.specs.Class.{Ring, Record, Ideal, IsSum, IsNegative, IsMultiple}
 use Rattle.calls.specs.Call.{CheckCurve, CheckDivisor, Sum, Double, Negative, Multiple, divisor-of, room}
 
-abbrev pub curve : (p c0 c1 : ℕ) → List ℕ
-curve p c0 c1 = record-bytes curve-kind (p ∷ c0 ∷ c1 ∷ 0 ∷ 0 ∷ 0 ∷ 0 ∷ 0 ∷ 0 ∷ 0 ∷ [])
+abbrev pub curve : (p c0 c1 c3 : ℕ) → List ℕ
+curve p c0 c1 c3 = record-bytes curve-kind (p ∷ c0 ∷ c1 ∷ 0 ∷ c3 ∷ 0 ∷ 0 ∷ 0 ∷ 0 ∷ 0 ∷ [])
 
 abbrev pub divisor : Kind → List ℕ → List ℕ
 divisor κ ns = record-bytes (code κ) ns
@@ -36,8 +37,9 @@ pub data Row : Type 0 where
   double : (c a w : List ℕ) → Row
   negative : (c a w : List ℕ) → Row
   multiple : (c a : List ℕ) (n : ℕ) (w : List ℕ) → Row
-  -- the divisor a, the curve c is refused with n; the curve c is accepted
+  -- the divisor a, the curve c is refused with n; it is accepted
   divisor-refused : (c a : List ℕ) (n : ℕ) → Row
+  divisor-accepted : (c a : List ℕ) → Row
   curve-refused : (c : List ℕ) (n : ℕ) → Row
   curve-accepted : (c : List ℕ) → Row
 
@@ -56,6 +58,7 @@ Means (double c a w) = AcceptedCurve c × Record c a × IsSum c a a w
 Means (negative c a w) = AcceptedCurve c × Record c a × IsNegative c a w
 Means (multiple c a n w) = AcceptedCurve c × Record c a × IsMultiple c a (pos n) w
 Means (divisor-refused c a n) = FirstCause (curve-stages c ++ divisor-of c a) n
+Means (divisor-accepted c a) = AcceptedCurve c × Record c a
 Means (curve-refused c n) = FirstCause (curve-stages c) n
 Means (curve-accepted c) = AcceptedCurve c
 
@@ -76,12 +79,13 @@ Answer (double c a w) = Writes-just (Double c a) w
 Answer (negative c a w) = Writes-just (Negative c a) w
 Answer (multiple c a n w) = Writes-just (Multiple c a (pos n)) w
 Answer (divisor-refused c a n) = Returns-just (CheckDivisor c a) (minus n)
+Answer (divisor-accepted c a) = Returns-just (CheckDivisor c a) (pos 1)
 Answer (curve-refused c n) = Returns-just (CheckCurve c) (minus n)
 Answer (curve-accepted c) = Returns-just (CheckCurve c) (pos 1)
 
 -- Curve E: p = 5, y³ + x⁴ + 1. The point (1, 2) is given in bytes; P is (0, 4).
 abbrev pub E : List ℕ
-E = curve 5 1 0
+E = curve 5 1 0 0
 
 abbrev pub one-two : List ℕ
 one-two = 0x0C ∷ 0x00 ∷ 0x0B ∷ 0x00 ∷ 0x04 ∷ 0x00 ∷ 0x00 ∷ 0x00 ∷ 0x03 ∷ 0x00 ∷ 0x00 ∷ 0x00 ∷ []
@@ -91,11 +95,13 @@ P = divisor k11 (0 ∷ 1 ∷ [])
 
 -- y³ + x⁴ + x for p = 2
 abbrev pub D : List ℕ
-D = curve 2 0 1
+D = curve 2 0 1 0
 
 abbrev pub zero-class : List ℕ
 zero-class = divisor k0 []
 
+-- "A number 5 is refused with 8, 4 is not": 5 in place of each number of (1, 2), and in place of the 0 of P, which has the same residue;
+-- then (1, 2), whose first number is 4, and 11: 4 4, which is refused with 9, since (1, 1) is not on E.
 abbrev pub table : List Row
 table =
     point E 1 2 one-two
@@ -114,11 +120,27 @@ table =
     ∷ sum E one-two (divisor k22 (0 ∷ 1 ∷ 4 ∷ [])) (divisor k31 (0 ∷ 4 ∷ 0 ∷ 0 ∷ 3 ∷ 0 ∷ 1 ∷ 2 ∷ 4 ∷ []))
     ∷ divisor-refused E (divisor k11 (0 ∷ 0 ∷ [])) 9
     ∷ divisor-refused E (divisor k21 (3 ∷ 0 ∷ 0 ∷ 0 ∷ [])) 9
-    ∷ curve-refused (curve 2 1 0) 5
-    ∷ curve-refused (curve 3 1 0) 5
+    ∷ divisor-refused E (divisor k11 (5 ∷ 3 ∷ [])) 8
+    ∷ divisor-refused E (divisor k11 (4 ∷ 5 ∷ [])) 8
+    ∷ divisor-refused E (divisor k11 (5 ∷ 1 ∷ [])) 8
+    ∷ divisor-accepted E one-two
+    ∷ divisor-refused E (divisor k11 (4 ∷ 4 ∷ [])) 9
+    ∷ curve-refused (curve 2 1 0 0) 5
+    ∷ curve-refused (curve 3 1 0 0) 5
     ∷ curve-accepted D
     ∷ point D 0 0 (divisor k11 (0 ∷ 0 ∷ []))
     ∷ double D (divisor k11 (0 ∷ 0 ∷ [])) (divisor k22 (0 ∷ 0 ∷ 0 ∷ []))
     ∷ multiple D (divisor k11 (0 ∷ 0 ∷ [])) 2 (divisor k22 (0 ∷ 0 ∷ 0 ∷ []))
     ∷ multiple D (divisor k11 (0 ∷ 0 ∷ [])) 3 zero-class
+    ∷ []
+
+-- Document 01, "Traps of this arithmetic": "Looking for singular points, or checking a basis, only at points whose coordinates lie in the
+-- field." For p = 2 the curve y³ + x⁴ + x² + 1 is singular where y = 0 and x² + x + 1 = 0, which is at no such point. On E the records
+-- 21: 4 0 2 0 and 21: 0 0 2 0 have no such point, since x² + 2 has no root modulo 5. The first is no basis: where y = 1 and x² = −2,
+-- y³ + x⁴ + 1 is 1. The second is a basis.
+abbrev pub traps : List Row
+traps =
+    curve-refused (curve 2 1 0 1) 5
+    ∷ divisor-refused E (divisor k21 (4 ∷ 0 ∷ 2 ∷ 0 ∷ [])) 9
+    ∷ divisor-accepted E (divisor k21 (0 ∷ 0 ∷ 2 ∷ 0 ∷ []))
     ∷ []

@@ -1,0 +1,2 @@
+-- The pool of the test.
+pub mod Start
