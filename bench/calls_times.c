@@ -2,6 +2,7 @@
    parts of a call are differences of calls' times.
      calls_times [NS]       prints all tables; NS is Singular's time of a bare sum, left out where it is not known
      calls_times short      prints the tables without the sequences
+     calls_times parts      prints the table of the parts
      calls_times singular   prints a Singular program that times bare sums of the same records and prints NS
    Every answer and every result buffer of the two sides must be equal. COMPILER names the compiler of the C side. */
 #define _POSIX_C_SOURCE 199309L
@@ -296,32 +297,42 @@ static double mean_operations(void)
     return sum / PRIMES;
 }
 
-/* The nine calls and what follows from them; returns the times of a bare sum at p = 2147483647. */
-static struct times print_calls(void)
+/* The times of the calls at p = 2147483647, and their means over the primes below 256. */
+static struct times at_large[CALLS], at_small[CALLS];
+
+static void print_calls(void)
 {
-    struct times a[CALLS], b[CALLS];
-    timed(&large, 1, ROUNDS, a);
-    timed(small, PRIMES, ROUNDS / 4, b);
-    printf("C side by %s; ns of CPU time, proved and C by turns, least of %d. Left: p = 2147483647, a random\n"
-           "curve, random records of kind 31. Right: mean over the ten primes from 197 to 251, random records.\n"
-           "Lists of %d records, multipliers of 63 bits (%.0f doublings and additions). All answers agree.\n",
-           COMPILER, ROUNDS, LISTED, operations(&large));
     print_head("call");
     for (int k = 0; k < CALLS; k++)
-        print_row(row[k].name, a[k], b[k]);
-    print_head("part, from the calls above");
-    struct times check_a = over(plus(a[COUNT_KIND], -1, a[CHECK_CURVE]), LISTED);
-    struct times check_b = over(plus(b[COUNT_KIND], -1, b[CHECK_CURVE]), LISTED);
-    struct times sum_a = plus(plus(a[SUM], -1, a[CHECK_CURVE]), -2, check_a);
-    struct times sum_b = plus(plus(b[SUM], -1, b[CHECK_CURVE]), -2, check_b);
-    struct times star_a = plus(a[NEGATIVE], -1, a[CHECK_DIVISOR]);
-    struct times star_b = plus(b[NEGATIVE], -1, b[CHECK_DIVISOR]);
-    print_row("test whether the curve is singular", plus(a[CHECK_CURVE], -1, a[REFUSED_CURVE]),
-              plus(b[CHECK_CURVE], -1, b[REFUSED_CURVE]));
-    print_row("divisor's check, from count", check_a, check_b);
-    print_row("star of a record, from negative", star_a, star_b);
-    print_row("bare sum: sum without its checks", sum_a, sum_b);
-    print_row("product and its star, from the two", plus(sum_a, -1, star_a), plus(sum_b, -1, star_b));
+        print_row(row[k].name, at_large[k], at_small[k]);
+}
+
+/* What follows from the times of the calls. */
+struct parts {
+    struct times singular, check, star, sum;
+};
+
+static struct parts parts(const struct times a[CALLS])
+{
+    struct parts t;
+    t.singular = plus(a[CHECK_CURVE], -1, a[REFUSED_CURVE]);
+    t.check = over(plus(a[COUNT_KIND], -1, a[CHECK_CURVE]), LISTED);
+    t.star = plus(a[NEGATIVE], -1, a[CHECK_DIVISOR]);
+    t.sum = plus(plus(a[SUM], -1, a[CHECK_CURVE]), -2, t.check);
+    return t;
+}
+
+/* Prints the parts; returns the times of a bare sum at p = 2147483647. */
+static struct times print_parts(void)
+{
+    const struct times *a = at_large, *b = at_small;
+    struct parts t = parts(a), u = parts(b);
+    print_head("part, from the calls' times");
+    print_row("test whether the curve is singular", t.singular, u.singular);
+    print_row("divisor's check, from count", t.check, u.check);
+    print_row("star of a record, from negative", t.star, u.star);
+    print_row("bare sum: sum without its checks", t.sum, u.sum);
+    print_row("product and its star, from the two", plus(t.sum, -1, t.star), plus(u.sum, -1, u.star));
     print_row("list_sum, per record", over(a[LIST_SUM], LISTED), over(b[LIST_SUM], LISTED));
     print_row("list_sum less count, per record", over(plus(a[LIST_SUM], -1, a[COUNT_KIND]), LISTED),
               over(plus(b[LIST_SUM], -1, b[COUNT_KIND]), LISTED));
@@ -330,9 +341,9 @@ static struct times print_calls(void)
     printf("\n"
            "Share of the checks (curve and both divisors) in a sum call: at p = 2147483647 proved %.0f %%, C %.0f %%,\n"
            "below 256 proved %.0f %%, C %.0f %%.\n\n",
-           100 - 100 * sum_a.side[0] / a[SUM].side[0], 100 - 100 * sum_a.side[1] / a[SUM].side[1],
-           100 - 100 * sum_b.side[0] / b[SUM].side[0], 100 - 100 * sum_b.side[1] / b[SUM].side[1]);
-    return sum_a;
+           100 - 100 * t.sum.side[0] / a[SUM].side[0], 100 - 100 * t.sum.side[1] / a[SUM].side[1],
+           100 - 100 * u.sum.side[0] / b[SUM].side[0], 100 - 100 * u.sum.side[1] / b[SUM].side[1]);
+    return t.sum;
 }
 
 static void print_sequences(void)
@@ -373,8 +384,16 @@ int main(int argc, char **argv)
         singular_program(&large);
         return 0;
     }
-    struct times bare = print_calls();
-    if (strcmp(mode, "short") == 0)
+    timed(&large, 1, ROUNDS, at_large);
+    timed(small, PRIMES, ROUNDS / 4, at_small);
+    printf("C side by %s; ns of CPU time, proved and C by turns, least of %d. Left: p = 2147483647, a random\n"
+           "curve, random records of kind 31. Right: mean over the ten primes from 197 to 251, random records.\n"
+           "Lists of %d records, multipliers of 63 bits (%.0f doublings and additions). All answers agree.\n",
+           COMPILER, ROUNDS, LISTED, operations(&large));
+    if (strcmp(mode, "parts") != 0)
+        print_calls();
+    struct times bare = print_parts();
+    if (strcmp(mode, "short") == 0 || strcmp(mode, "parts") == 0)
         return 0;
     print_sequences();
     print_notes();

@@ -17,6 +17,7 @@ use lib.ListN.{length, getD}
 use mir.Val.{Fits}
 use mir.Syntax.{w64}
 use Rattle.algebra.proofs.Norm.{both}
+use Rattle.curve.proofs.Table.{all-below, all-below-at}
 use Rattle.layout.specs.Layout.{bytes2, bytes4, all-bytes4, record-bytes}
 use Rattle.record.specs.Curve.{modulus, equation, curve-stages, AcceptedCurve}
 use Rattle.record.specs.Listed.{joined, list-limit, AllAccepted, Listed}
@@ -28,7 +29,7 @@ use Rattle.calls.proofs.Answers.{Answered, short, enough, answer, list-of-sound
 use Rattle.calls.proofs.Exists.{list-passes}
 use Rattle.calls.proofs.Multiples.{list-class}
 use Rattle.worked.specs.Table.{E}
-use Rattle.worked.proofs.Tests.{both-left, both-right, all-below, all-below-sound, bytes-sound}
+use Rattle.worked.proofs.Tests.{both-left, both-right, bytes-sound}
 use Rattle.worked.proofs.Worked.{worked}
 use Rattle.pool.specs.Held.{slot, Held}
 use Rattle.pool.specs.Run.{Valid, Given, RunAsked, RunMade}
@@ -48,11 +49,11 @@ holds-sound s rs t =
     let all = both-right (leb (slot (length rs)) (length s)) _ t in
     record {
       fits = leb→le (slot (length rs)) (length s) (both-left (leb (slot (length rs)) (length s)) _ t);
-      short = λ m h. leb→le (length (entry rs m)) room (both-left (leb (length (entry rs m)) room) _ (all-below-sound (at-place s rs) (length rs) all m h));
+      short = λ m h. leb→le (length (entry rs m)) room (both-left (leb (length (entry rs m)) room) _ (all-below-at (at-place s rs) (length rs) all m h));
       bytes =
           λ m k h l. eqb→eq (getD s (slot m + k) 0) (getD (entry rs m) k 0)
-          (all-below-sound (λ k. eqb (getD s (slot m + k) 0) (getD (entry rs m) k 0)) (length (entry rs m))
-          (both-right (leb (length (entry rs m)) room) _ (all-below-sound (at-place s rs) (length rs) all m h)) k l);
+          (all-below-at (λ k. eqb (getD s (slot m + k) 0) (getD (entry rs m) k 0)) (length (entry rs m))
+          (both-right (leb (length (entry rs m)) room) _ (all-below-at (at-place s rs) (length rs) all m h)) k l);
     }
 
 -- The rows of (1, 2), (2, 2), (3, 2) and P in the table of worked sums say that these records are accepted on E, and that E is accepted.

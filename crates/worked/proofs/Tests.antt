@@ -1,19 +1,18 @@
 -- Tests by computation, and what they show.
 --   both-left, both-right, of-either, either   the parts of a test
---   all-below f k      the test f passes at 0, …, k − 1
 --   below p f k        f 0, …, f (k − 1) are below p
 --   prime p            p is a prime
 --   bytes s            every element of s is below 256
-use mathlib.Core.Path.{_≡_, sym, subst}
+use mathlib.Core.Path.{_≡_}
 use mathlib.Core.Bool.{Bool, true, false}
 use mathlib.Core.Logic.{_⊎_, inl, inr}
 use mathlib.Core.List.{List, [], _∷_}
 use Prim.Native.Nat.{ℕ, zero, suc, _%_, _<_}
-use native.Mathlib.Decide.{ℕ-discrete}
 use native.Mathlib.Omega.{arith}
 use lib.Dec.{T, leb, ltb, leb→le, ltb→lt}
 use Rattle.algebra.proofs.Norm.{both}
 use Rattle.prime.specs.Prime.{Prime}
+use Rattle.curve.proofs.Table.{all-below, all-below-at}
 use Rattle.layout.specs.Layout.{Bytes}
 
 pub both-left : (a b : Bool) → T (both a b) → T a
@@ -32,23 +31,11 @@ pub of-either : (a b : Bool) → T (either a b) → T a ⊎ T b
 of-either true b t = inl tt
 of-either false b t = inr t
 
-abbrev pub all-below : (ℕ → Bool) → ℕ → Bool
-all-below f zero = true
-all-below f (suc k) = both (f k) (all-below f k)
-
-pub all-below-sound : (f : ℕ → Bool) (k : ℕ) → T (all-below f k) → (i : ℕ) → i < k → T (f i)
-all-below-sound f zero t i h = absurd (omega arith)
-all-below-sound f (suc k) t i h = go (ℕ-discrete i k) (all-below-sound f k (both-right (f k) (all-below f k) t) i)
-  where
-    go : Dec (i ≡ k) → (i < k → T (f i)) → T (f i)
-    go (yes e) r = subst (λ (j : ℕ). T (f j)) (sym e) (both-left (f k) (all-below f k) t)
-    go (no e) r = r (omega arith)
-
 abbrev pub below : ℕ → (ℕ → ℕ) → ℕ → Bool
 below p f k = all-below (λ i. ltb (f i) p) k
 
 pub below-sound : (p : ℕ) (f : ℕ → ℕ) (k : ℕ) → T (below p f k) → (i : ℕ) → i < k → f i < p
-below-sound p f k t i h = ltb→lt (f i) p (all-below-sound (λ j. ltb (f j) p) k t i h)
+below-sound p f k t i h = ltb→lt (f i) p (all-below-at (λ j. ltb (f j) p) k t i h)
 
 abbrev pub bytes : List ℕ → Bool
 bytes [] = true
@@ -77,5 +64,5 @@ pub prime-sound : (p : ℕ) → T (prime p) → Prime p
 prime-sound p t =
     record {
       two-le = leb→le 2 p (both-left (leb 2 p) _ t);
-      only = λ d l m e. undivided-sound p d (all-below-sound (undivided p) p (both-right (leb 2 p) _ t) d m) l e;
+      only = λ d l m e. undivided-sound p d (all-below-at (undivided p) p (both-right (leb 2 p) _ t) d m) l e;
     }
