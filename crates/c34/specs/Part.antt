@@ -15,7 +15,7 @@
 use mathlib.Core.Path.{_≡_}
 use mathlib.Core.List.{List, _++_}
 use Prim.Native.Nat.{ℕ, suc, _≤_}
-use lib.ListN.{length, drop, replicate}
+use lib.ListN.{length, replicate}
 use lib.IntN.{ℤ, pos, negsuc}
 use Rattle.divisor.specs.Kind.{Kind, code}
 use Rattle.triple.specs.declared.equation.Equation.{Equation}
@@ -24,6 +24,7 @@ use Rattle.record.specs.Cause.{Stage, FirstCause}
 use Rattle.record.specs.Curve.{modulus, equation, curve-stages, AcceptedCurve}
 use Rattle.record.specs.Listed.{Listed, ListRefused, list-limit}
 use Rattle.record.specs.Reading.{equation-value, DivisorGiven}
+use Rattle.calls.specs.Answer.{Gives}
 use Rattle.calls.specs.Class.{IsSum, IsNegative, IsListSum, IsMultiple}
 use Rattle.calls.specs.Call.{divisor-of, room, tally}
 use Rattle.c34.specs.declared.One.{One}
@@ -96,7 +97,7 @@ pub record WritingAsked (r : Divisor) (out : List ℕ) : Type 0 where
   pub long : room ≤ length out
 
 abbrev pub Wrote : Divisor → (out out′ : List ℕ) → ℤ → Type 0
-Wrote x out out′ r = (c w : List ℕ) → GivenOn c w x → (r ≡ pos (length w)) × (out′ ≡ w ++ drop (length w) out)
+Wrote x out out′ r = (c w : List ℕ) → GivenOn c w x → Gives w out r out′
 
 abbrev pub TotalRead : Equation → List ℕ → Total → Type 0
 TotalRead e s (total.Sum x) =

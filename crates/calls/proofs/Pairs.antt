@@ -117,7 +117,7 @@ module _ (c : List ℕ) (A : AcceptedCurve c) (rs : List (List ℕ)) where
         at : (w : List ℕ) → r ≡ pos (length w) → out′ ≡ w ++ drop (length w) out → IsListSum c rs w → ListAnswer c rs p out r out′
         at w e q s = record {
           sum = w;
-          wrote = (e, q);
+          given = (e, q);
           all = class-reduced c A w (stands .accepted) (stands .class);
           one-left = λ v u. stands-one c A rs w v stands (last-stands gs p v kept u);
           none-given = λ u. subst (λ (ts : List (List ℕ)). IsListSum c ts w) u s;

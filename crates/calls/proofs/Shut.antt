@@ -18,7 +18,7 @@ use Rattle.record.specs.Curve.{modulus, equation, curve-stages, AcceptedCurve}
 use Rattle.record.specs.Listed.{joined, Listed, list-limit}
 use Rattle.record.proofs.Cause.{AllSound, passes-refuses}
 use Rattle.record.proofs.Lists.{curve-sound, listed-once}
-use Rattle.calls.specs.Answer.{Returns, refused, answered}
+use Rattle.calls.specs.Answer.{Gives, Returns, refused, answered}
 use Rattle.calls.specs.Class.{Ring, Record, zero-record, ReducedOf, IsSum, IsNegative, IsListSum}
 use Rattle.calls.specs.Call.{CheckCurve, CheckDivisor, Sum, ListSum, Compare, Count, divisor-of, list-of, room, tally}
 use Rattle.calls.specs.Pool.{PoolCall, IsCall, PoolEnd}
@@ -40,12 +40,12 @@ module _ (c : List ℕ) (A : AcceptedCurve c) where
   divisor-accepted a r p h = returned (curve-stages c ++ divisor-of c a) (one-sound c a) (one-passes c A a p) h
 
   pub plus-zero : (a out : List ℕ) (r : ℤ) (out′ : List ℕ) → Record c a → room ≤ length out → Sum c a zero-record out r out′
-      → (r ≡ pos (length a)) × (out′ ≡ a ++ drop (length a) out)
+      → Gives a out r out′
   plus-zero a out r out′ ra l h =
       go
       (answer (curve-stages c ++ divisor-of c a ++ divisor-of c zero-record) (two-sound c a zero-record) (two-passes c A a zero-record (ra .1) (zero-accepted c .1)) h)
     where
-      go : Answered (IsSum c a zero-record) out r out′ → (r ≡ pos (length a)) × (out′ ≡ a ++ drop (length a) out)
+      go : Answered (IsSum c a zero-record) out r out′ → Gives a out r out′
       go (short m e q) = absurd (omega arith)
       go (enough w m s e q) = (e ∙ ap (λ (v : List ℕ). pos (length v)) same, q ∙ ap (λ (v : List ℕ). v ++ drop (length v) out) same)
         where

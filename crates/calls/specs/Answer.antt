@@ -1,6 +1,7 @@
 -- What a call returns and leaves, for every input. Document 01: "a refusal arrives there as the negative of its number"; "On success a call
 -- that writes returns the length written".
 --   minus n                    the number that a refusal n returns
+--   Gives w out r out′         a call that writes w returns its length; the buffer has w at its start and is the same after it
 --   Writes ss Good out r out′  a call that writes, with the stages ss and the result buffer out: refused, it returns minus the number of the
 --                              first cause and leaves the buffer; else it returns the length of a record for which Good holds, and the buffer
 --                              has this record at its start and is the same after it
@@ -15,6 +16,9 @@ use Rattle.record.specs.Cause.{Stage, FirstCause, Passes}
 abbrev pub minus : ℕ → ℤ
 minus zero = pos 0
 minus (suc n) = negsuc n
+
+abbrev pub Gives : (w out : List ℕ) → ℤ → List ℕ → Type 0
+Gives w out r out′ = (r ≡ pos (length w)) × (out′ ≡ w ++ drop (length w) out)
 
 pub data Writes (ss : List Stage) (Good : List ℕ → Type 0) (out : List ℕ) (r : ℤ) (out′ : List ℕ) : Type 0 where
   refused : (n : ℕ) → FirstCause ss n → r ≡ minus n → out′ ≡ out → Writes ss Good out r out′

@@ -1,6 +1,6 @@
 -- Document 01, "What a sum is", in bytes. A string of bytes w is the result if the curve is accepted, w is an accepted record on it and its
 -- ideal is the one that the definition gives.
---   field-of c, curve-of c     the modulus and the curve of the curve's bytes c
+--   Ring c, poles-on c A       the coordinate ring of the curve of the bytes c, and its pole numbers where the curve is accepted
 --   Record c w                 w is an accepted divisor record on the curve
 --   Ideal c w                  its ideal
 --   zero-record                the record of the zero class

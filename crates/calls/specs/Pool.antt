@@ -12,20 +12,19 @@
 --   Made c p ks          the calls ks are made one after the other, each on the pool that the one before it left
 --   alone n              the groups at the start: the group of the record at place i is i alone
 --   served ks            how many calls have a buffer of 40 bytes or more
---   Wrote w out r out′   a call returned the length of w, and wrote w at the start of its buffer and nothing after it
 --   ListAnswer           what the single list call over the given records writes
 --   PoolEnd c rs ks      what document 01 claims of the calls ks on the pool of the given records rs
 use mathlib.Core.Path.{_≡_}
 use mathlib.Core.List.{List, [], _∷_, _++_}
 use mathlib.Core.Bool.{Bool, true, false}
 use Prim.Native.Nat.{ℕ, zero, suc, _+_, _<_, _≤_}
-use lib.ListN.{length, getD, take, drop}
+use lib.ListN.{length, getD, take}
 use lib.IntN.{ℤ, pos, negsuc}
 use lib.Dec.{eqb, leb}
 use Rattle.ideal.specs.Ideal.{ProductOf}
 use Rattle.record.specs.Curve.{AcceptedCurve}
 use Rattle.record.specs.Listed.{joined}
-use Rattle.calls.specs.Answer.{minus}
+use Rattle.calls.specs.Answer.{minus, Gives}
 use Rattle.calls.specs.Class.{Ring, Ideal, ReducedOf, zero-record}
 use Rattle.calls.specs.Call.{Sum, ListSum, one-if, room}
 
@@ -99,13 +98,10 @@ abbrev pub served : List PoolCall → ℕ
 served [] = 0
 served (k ∷ ks) = one-if (leb room (length (k .before))) + served ks
 
-abbrev pub Wrote : (w out : List ℕ) → ℤ → List ℕ → Type 0
-Wrote w out r out′ = (r ≡ pos (length w)) × (out′ ≡ w ++ drop (length w) out)
-
 -- "a call is refused exactly when its buffer is under 40 bytes, and then leaves the pool as it was; else … the one that it wrote comes in"
 pub record CallAnswer (k : PoolCall) : Type 0 where
   pub short : length (k .before) < room → (k .returned ≡ minus 10) × (k .after ≡ k .before)
-  pub enough : room ≤ length (k .before) → Wrote (written-by k) (k .before) (k .returned) (k .after)
+  pub enough : room ≤ length (k .before) → Gives (written-by k) (k .before) (k .returned) (k .after)
 
 abbrev pub CallAnswers : List PoolCall → Type 0
 CallAnswers [] = Unit
@@ -115,7 +111,7 @@ CallAnswers (k ∷ ks) = CallAnswer k × CallAnswers ks
 -- all their ideals: byte for byte the pool's record where only one is left, the zero record where none was given." p′ is the pool.
 pub record ListAnswer (c : List ℕ) (rs p′ : List (List ℕ)) (out : List ℕ) (r : ℤ) (out′ : List ℕ) : Type 0 where
   pub sum : List ℕ
-  pub wrote : Wrote sum out r out′
+  pub given : Gives sum out r out′
   pub all : ReducedOf c (ProductOf (Ring c) (Ideal c) rs) sum
   pub one-left : (w : List ℕ) → p′ ≡ w ∷ [] → sum ≡ w
   pub none-given : rs ≡ [] → sum ≡ zero-record

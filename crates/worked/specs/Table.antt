@@ -10,7 +10,7 @@
 use mathlib.Core.Path.{_≡_}
 use mathlib.Core.List.{List, [], _∷_, _++_}
 use Prim.Native.Nat.{ℕ, _≤_}
-use lib.ListN.{length, drop}
+use lib.ListN.{length}
 use lib.IntN.{ℤ, pos}
 use Rattle.field.specs.Residue.{el}
 use Rattle.ideal.specs.Ideal.{Generated, SameIdeal}
@@ -19,7 +19,7 @@ use Rattle.divisor.specs.Kind.{Kind, k0, k11, k21, k22, k31, code}
 use Rattle.layout.specs.Layout.{record-bytes}
 use Rattle.record.specs.Cause.{FirstCause}
 use Rattle.record.specs.Curve.{curve-kind, modulus, equation, curve-stages, AcceptedCurve}
-use Rattle.calls.specs.Answer.{minus}
+use Rattle.calls.specs.Answer.{minus, Gives}
 use Rattle.calls.specs.Class.{Ring, Record, Ideal, IsSum, IsNegative, IsMultiple}
 use Rattle.calls.specs.Call.{CheckCurve, CheckDivisor, Sum, Double, Negative, Multiple, divisor-of, room}
 
@@ -65,8 +65,7 @@ Means (curve-accepted c) = AcceptedCurve c
 -- a call that writes, on a buffer of 40 bytes or more, returns the length of w and writes w
 abbrev pub Writes-just : (List ℕ → ℤ → List ℕ → Type 0) → List ℕ → Type 0
 Writes-just Call w =
-    (out : List ℕ) (r : ℤ) (out′ : List ℕ) → room ≤ length out → Call out r out′
-    → (r ≡ pos (length w)) × (out′ ≡ w ++ drop (length w) out)
+    (out : List ℕ) (r : ℤ) (out′ : List ℕ) → room ≤ length out → Call out r out′ → Gives w out r out′
 
 -- a check returns n
 abbrev pub Returns-just : (ℤ → Type 0) → ℤ → Type 0
