@@ -1,0 +1,2 @@
+-- Why the ground of a curve is one.
+pub mod Unit

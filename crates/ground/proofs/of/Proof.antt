@@ -1,0 +1,23 @@
+-- `of` makes the ground: −1 is the inverse of −a0, and the vector of y³ is that of the equation.
+use mathlib.Core.Path.{refl}
+use borrow.Author.Needs.{needs}
+use Rattle.ground.proofs.Unit.{minus-one}
+use Rattle.ground.proofs.of.Statement.{statement}
+use Rattle.ground.proofs.of.Tie as tie
+
+neg-requires : tie.Need-neg-requires
+neg-requires c κs = search needs
+
+cube-requires : tie.Need-cube-requires
+cube-requires c κs = search needs
+
+returns : tie.Need-returns
+returns c =
+    record {
+      modulus = refl;
+      unit-is = minus-one (c .before .before .pre) _ (c .before .neg .ensures);
+      cube-is = c .cube .ensures;
+    }
+
+pub of-spec : {M : Type 1} → statement M
+of-spec = tie.close (tie.spec neg-requires cube-requires returns)

@@ -1,0 +1,2 @@
+-- The ground of the arithmetic on a curve.
+pub mod Ground

@@ -1,0 +1,19 @@
+// The ground of the arithmetic on a curve, by value: the modulus p, the inverse of −a0 and the vector of y³.
+use triple::equation::Equation;
+ghost use Rattle.ground.specs.Ground.{GroundAsked, GroundOf};
+
+pub struct Ground {
+    pub p: u32,
+    pub unit: u32,
+    pub cube: [u32; 26],
+}
+
+// The ground of a curve with a0 = 1; −1 is its own inverse.
+pub fn of(e: Equation) -> Ground
+    requires { ⌜ GroundAsked e ⌝ }
+    ensures { λ g. ⌜ GroundOf e g ⌝ }
+{
+    let unit = field::neg(e.p, 1);
+    let cube = triple::equation::cube(e);
+    Ground { p: e.p, unit, cube }
+}
