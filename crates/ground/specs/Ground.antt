@@ -1,6 +1,7 @@
 -- The ground of a curve by value: what holds of it, and what its maker requires and ensures.
 --   Unit-of p k C          k is the inverse of −a0
 --   Grounded g             g is the ground of some curve with a0 ≢ 0 over the field of p elements
+--   AtGround g X           X holds of p and of every curve of which g is the ground
 --   GroundAsked e          the coefficients are below p, and a0 is 1
 --   GroundOf e g           of: g is the ground of the curve e
 use mathlib.Core.Path.{_≡_}
@@ -20,6 +21,9 @@ pub record Unit-of (p k : ℕ) (C : Curve (Z p)) : Type 0 where
 pub record Grounded (g : Ground) : Type 0 where
   pub ready : Ready (g .p) (g .cube)
   pub unit-is : Unit-of (g .p) (g .unit) (ready .setting .curve)
+
+abbrev pub AtGround : (g : Ground) → ((p : ℕ) → Curve (Z p) → Type 0) → Type 0
+AtGround g X = (G : Grounded g) → X (g .p) (G .ready .setting .curve)
 
 pub record GroundAsked (e : Equation) : Type 0 where
   pub coefficients : Coefficients e

@@ -1,14 +1,13 @@
 -- What the reader of a divisor finds, stage by stage. r is the value that it reads of the bytes s, whose form is accepted.
---   ready-of           the setting of a curve by value
---   divisor-rest       the stages behind the form
 --   value-shaped, value-holds      r has the kind and the numbers of s
 --   refused-8, refused-9, given    a number that is not below p; no basis; an accepted divisor
 --   basis-asked, found-no-basis, found-basis    the same by the test of basis
+--   first-refused, second-refused, both-given     two divisors, one after the other
 --   next-short, next-field, next-is-given, next-is-refused    the record at the start of a list's bytes
 use mathlib.Core.Path.{_≡_, refl, ap, _∙_, subst}
 use mathlib.Core.Bool.{Bool, true, false}
 use mathlib.Core.Logic.{inl, inr}
-use mathlib.Core.List.{List, [], _∷_}
+use mathlib.Core.List.{List, _++_}
 use Prim.Native.Nat.{ℕ, _+_, _*_, _<_, _≤_}
 use native.Mathlib.Omega.{arith}
 use native.Mathlib.Decide.{decLt}
@@ -19,40 +18,25 @@ use Rattle.field.specs.Residue.{Z, el}
 use Rattle.curve.specs.Curve.{Curve}
 use Rattle.divisor.specs.Kind.{Kind, count, size, IsBasis}
 use Rattle.layout.specs.Layout.{Bytes, number2, number4}
-use Rattle.triple.specs.Setting.{Ready}
-use Rattle.triple.specs.Equation.{curve-of}
-use Rattle.triple.specs.declared.equation.Equation.{Equation}
+use Rattle.ground.specs.declared.Ground.{Ground}
+use Rattle.ground.specs.Ground.{Grounded}
 use Rattle.basis.specs.Divisor.{numbers, residues, Shaped}
 use Rattle.basis.specs.declared.Divisor.{Divisor}
 use Rattle.basis.specs.Contract.{BasisAsked, BasisTest}
-use Rattle.record.specs.Cause.{Stage, must, FirstCause, Passes}
-use Rattle.record.specs.Contract.{AllBelow, ValueOf, divisor-form}
-use Rattle.record.specs.Divisor.{of-kind, number-at, divisor-stages}
+use Rattle.record.specs.Cause.{FirstCause, Passes}
+use Rattle.record.specs.Contract.{AllBelow, ValueOf}
+use Rattle.record.specs.Divisor.{of-kind, number-at, divisor-form, divisor-stages}
 use Rattle.record.specs.Listed.{next-stages}
-use Rattle.record.specs.Reading.{OnCurve, DivisorGiven, DivisorRead, NextRead}
+use Rattle.record.specs.Reading.{DivisorGiven, DivisorRead, TwoRead, NextRead}
 use Rattle.record.specs.declared.DivisorAnswer.{DivisorAnswer}
 use Rattle.record.specs.declared.DivisorAnswer.the-variants as answer
+use Rattle.record.specs.declared.TwoAnswer.the-variants as two
 use Rattle.record.specs.declared.NextAnswer.the-variants as next
 use Rattle.record.proofs.Accepted.{Reads, reads-accepted, same-kind}
 use Rattle.record.proofs.Answer.{below-at, at-below}
+use Rattle.record.proofs.Cause.{first-append}
 use Rattle.record.proofs.Codes.{count-small, basis-same}
 use Rattle.record.proofs.Written.{Holds, read-back, read-based}
-
-abbrev pub ready-of : (e : Equation) (f : List ℕ) → OnCurve e f → Ready (e .p) f
-ready-of e f o =
-    record {
-      setting = record { prime = o .prime; curve = curve-of e; nonzero = o .nonzero };
-      f-vec = o .is-cube .vec;
-      f-top = o .is-cube .top;
-      cube = o .is-cube .cube;
-    }
-
--- the stages behind the form
-abbrev pub divisor-rest : (p : ℕ) → Curve (Z p) → List ℕ → List Stage
-divisor-rest p C s =
-    must 8 ((κ : Kind) → of-kind s κ → (i : ℕ) → i < count κ → number4 s (4 + 4 * i) < p)
-    ∷ must 9 ((κ : Kind) → of-kind s κ → IsBasis C κ (number-at p s))
-    ∷ []
 
 module _ (p : ℕ) (prime : Prime p) (s : List ℕ) (r : Divisor) (v : ValueOf s r) (form : Passes (divisor-form s)) where
   abbrev κ : Kind
@@ -130,18 +114,39 @@ module _ (p : ℕ) (prime : Prime p) (s : List ℕ) (r : Divisor) (v : ValueOf s
               basis = basis-same C (residues p r) (number-at p s) κ (λ i l. ap (el p) (number-is i l)) b;
             }
 
-module _ (e : Equation) (f s : List ℕ) (r : Divisor) (o : OnCurve e f) (v : ValueOf s r) (form : Passes (divisor-form s)) (below : AllBelow (e .p) (numbers r)) where
-  shaped : Shaped (e .p) (form .1 .0 .0) r
-  shaped = value-shaped (e .p) (o .prime) s r v form below
+module _ {g : Ground} (s : List ℕ) (r : Divisor) (v : ValueOf s r) (form : Passes (divisor-form s)) (below : AllBelow (g .p) (numbers r)) (G : Grounded g) where
+  abbrev C : Curve (Z (g .p))
+  C = G .ready .setting .curve
 
-  pub basis-asked : BasisAsked (e .p) f r
-  basis-asked = record { ready = ready-of e f o; kind = form .1 .0 .0; shaped = shaped }
+  shaped : Shaped (g .p) (form .1 .0 .0) r
+  shaped = value-shaped (g .p) (G .ready .setting .prime) s r v form below
 
-  pub found-no-basis : (b : Bool) → BasisTest (e .p) f r b → b ≡ false → FirstCause (divisor-stages (e .p) (curve-of e) s) 9
-  found-no-basis b t n = refused-9 (e .p) (o .prime) s r v form (curve-of e) below (t .no-basis n (ready-of e f o) (form .1 .0 .0) shaped)
+  pub basis-asked : BasisAsked g r
+  basis-asked = record { grounded = G; kind = form .1 .0 .0; shaped = shaped }
 
-  pub found-basis : (b : Bool) → BasisTest (e .p) f r b → b ≡ true → Bytes s → DivisorGiven (e .p) (curve-of e) s r
-  found-basis b t y h = given (e .p) (o .prime) s r v form (curve-of e) below h (t .yes-basis y (ready-of e f o) (form .1 .0 .0) shaped)
+  pub found-no-basis : {b : Bool} → BasisTest g r b → b ≡ false → FirstCause (divisor-stages (g .p) C s) 9
+  found-no-basis t n = refused-9 (g .p) (G .ready .setting .prime) s r v form C below (t .no-basis n G (form .1 .0 .0) shaped)
+
+  pub found-basis : {b : Bool} → BasisTest g r b → b ≡ true → Bytes s → DivisorGiven (g .p) C s r
+  found-basis t y h = given (g .p) (G .ready .setting .prime) s r v form C below h (t .yes-basis y G (form .1 .0 .0) shaped)
+
+-- two divisors, one after the other
+module _ (p : ℕ) (C : Curve (Z p)) (s t : List ℕ) where
+  pub first-refused : (d : DivisorAnswer) (n : ℕ) → DivisorRead p C s d → d ≡ answer.Refused n → TwoRead p C s t (two.Refused n)
+  first-refused d n h e =
+      first-append (divisor-stages p C s) (divisor-stages p C t) n .1 (inl (subst (λ (b : DivisorAnswer). DivisorRead p C s b) e h))
+
+  module _ (d : DivisorAnswer) (x : Divisor) (h : DivisorRead p C s d) (e : d ≡ answer.Divisor x) (d′ : DivisorAnswer) (h′ : DivisorRead p C t d′) where
+    first : DivisorGiven p C s x
+    first = subst (λ (b : DivisorAnswer). DivisorRead p C s b) e h
+
+    pub second-refused : (n : ℕ) → d′ ≡ answer.Refused n → TwoRead p C s t (two.Refused n)
+    second-refused n e′ =
+        first-append (divisor-stages p C s) (divisor-stages p C t) n .1
+        (inr (first .accepted, subst (λ (b : DivisorAnswer). DivisorRead p C t b) e′ h′))
+
+    pub both-given : (y : Divisor) → d′ ≡ answer.Divisor y → TwoRead p C s t (two.Two x y)
+    both-given y e′ = (first, subst (λ (b : DivisorAnswer). DivisorRead p C t b) e′ h′)
 
 module _ (p : ℕ) (C : Curve (Z p)) (s : List ℕ) where
   pub next-short : length s < 4 → FirstCause (next-stages p C s) 6

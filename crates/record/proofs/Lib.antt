@@ -9,4 +9,5 @@ pub mod Suffices
 pub mod Answer
 pub mod DivisorReader
 pub mod CurveReader
+pub mod Ground
 pub mod ListReader

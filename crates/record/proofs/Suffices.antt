@@ -28,7 +28,7 @@ use Rattle.divisor.specs.Kind.{Kind, size, IdealOf, IsBasis}
 use Rattle.divisor.proofs.Exists.{RecordOf, record-exists, record-of, record-suffices}
 use Rattle.layout.specs.Layout.{Bytes}
 use Rattle.triple.specs.Setting.{Setting, ring, poles-of}
-use Rattle.record.specs.Curve.{limit, equation, AcceptedCurve, setting-of}
+use Rattle.record.specs.Curve.{limit, equation, AcceptedCurve, accepted-limit, setting-of}
 use Rattle.record.specs.Divisor.{AcceptedDivisor, IdealOfBytes}
 use Rattle.record.proofs.Codes.{size-least, size-most}
 use Rattle.record.proofs.Accepted.{reads-accepted}
@@ -122,4 +122,4 @@ module _ {p : ℕ} (S : Setting p) where
 pub record-length-suffices : (c : List ℕ) (A : AcceptedCurve c) (gs : List (Coordinate (equation c) .Car))
     → ¬ Every (λ g. g ≡ Coordinate (equation c) .zero) gs
     → OneRecord (ReducedRecord (setting-of c A) (Generated (Coordinate (equation c)) gs))
-record-length-suffices c A gs h = generated-reduced (setting-of c A) (A .1 .1 .1 .0 .1) gs h
+record-length-suffices c A gs h = generated-reduced (setting-of c A) (accepted-limit c A) gs h

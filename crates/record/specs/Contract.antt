@@ -1,32 +1,27 @@
 -- What the functions on records require and ensure.
 --   Answers A b            b is true exactly if A holds
 --   Checked ss n           n is 0 if every stage of ss is passed, else the number of the first cause
---   curve-form s           the first stages of a curve: its size, its kind and the kind's length
---   divisor-form s         the same of a divisor
 --   Known kind             kind is the number of a divisor kind
 --   Counted kind n         n is how many numbers a record of this kind has
 --   AllBelow p ns          every number of ns is below p
 --   Word s i n             n is the four-byte number at place i of s; 0 if it is not whole
 --   ValueOf s r            r has the kind and the numbers of s, 0 for a number that s has not
---   coefficients e         the nine coefficients of an equation
---   equation-stages e      the stages of a curve behind its form, of its equation by value: 3, 4, 5
+--   coefficients e, coefficient-of e i     the nine coefficients of an equation, and the i-th of them
+--   equation-stages e      what is checked of a curve behind its form, of its equation by value
 --   WriteAsked, WriteAnswer    write_divisor: the record of r at the start of the buffer, the rest as it was
 use mathlib.Core.Path.{_≡_}
 use mathlib.Core.Bool.{Bool, true, false}
 use mathlib.Core.List.{List, [], _∷_, _++_}
 use Prim.Native.Nat.{ℕ, _+_, _*_, _<_, _≤_}
 use lib.ListN.{length, getD, drop}
-use Rattle.prime.specs.Prime.{Prime}
-use Rattle.nonsingular.specs.Nonsingular.{Nonsingular}
 use Rattle.triple.specs.Equation.{curve-of}
 use Rattle.triple.specs.declared.equation.Equation.{Equation}
 use Rattle.divisor.specs.Kind.{Kind, code, count, size}
 use Rattle.basis.specs.Divisor.{numbers}
 use Rattle.basis.specs.declared.Divisor.{Divisor}
 use Rattle.layout.specs.Layout.{number2, number4}
-use Rattle.record.specs.Cause.{Stage, must, FirstCause, Passes}
-use Rattle.record.specs.Curve.{curve-kind, curve-size, limit}
-use Rattle.record.specs.Divisor.{of-kind}
+use Rattle.record.specs.Cause.{Stage, FirstCause, Passes}
+use Rattle.record.specs.Curve.{curve-rest}
 use Rattle.record.specs.Value.{bytes-of}
 
 pub record Answers (A : Type 0) (b : Bool) : Type 0 where
@@ -36,17 +31,6 @@ pub record Answers (A : Type 0) (b : Bool) : Type 0 where
 pub record Checked (ss : List Stage) (n : ℕ) : Type 0 where
   pub passes : n ≡ 0 → Passes ss
   pub cause : ¬ (n ≡ 0) → FirstCause ss n
-
--- a record's own length is that of the bytes given
-abbrev pub Sized : List ℕ → Type 0
-Sized s = (4 ≤ length s) × (number2 s 0 ≡ length s)
-
-abbrev pub curve-form : List ℕ → List Stage
-curve-form s = must 1 (Sized s) ∷ must 2 (number2 s 2 ≡ curve-kind) ∷ must 1 (length s ≡ curve-size) ∷ []
-
-abbrev pub divisor-form : List ℕ → List Stage
-divisor-form s =
-    must 6 (Sized s) ∷ must 7 ((κ : Kind) × of-kind s κ) ∷ must 6 ((κ : Kind) → of-kind s κ → length s ≡ size κ) ∷ []
 
 abbrev pub Known : ℕ → Type 0
 Known kind = (κ : Kind) × (kind ≡ code κ)
@@ -70,12 +54,11 @@ pub record ValueOf (s : List ℕ) (r : Divisor) : Type 0 where
 abbrev pub coefficients : Equation → List ℕ
 coefficients e = e .c0 ∷ e .c1 ∷ e .c2 ∷ e .c3 ∷ e .c4 ∷ e .c5 ∷ e .c6 ∷ e .c7 ∷ e .c8 ∷ []
 
+abbrev pub coefficient-of : Equation → ℕ → ℕ
+coefficient-of e i = getD (coefficients e) i 0
+
 abbrev pub equation-stages : Equation → List Stage
-equation-stages e =
-    must 3 (Prime (e .p) × (e .p ≤ limit))
-    ∷ must 4 (AllBelow (e .p) (coefficients e))
-    ∷ must 5 (Nonsingular (curve-of e))
-    ∷ []
+equation-stages e = curve-rest (e .p) (curve-of e) (coefficient-of e)
 
 pub record WriteAsked (r : Divisor) (out : List ℕ) : Type 0 where
   pub kind : Kind

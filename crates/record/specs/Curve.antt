@@ -1,12 +1,18 @@
 -- Curve records in bytes. Document 01: kind 34, length 44, the numbers p, c0 to c8.
 --   modulus s          p
 --   equation s         the curve over the residues modulo p: F = y³ + x⁴ + c8·xy² + … + c0
---   curve-stages s     what is checked of a curve, in order: 1 for size, 2, 1 for the kind's length, 3, 4, 5
+--   curve-form s       what is checked of a curve's bytes, in order: 1 for size, 2, 1 for the kind's length
+--   prime-stage p      3
+--   below-stage p c    4, for the coefficients c
+--   nonsingular-stage p C    5
+--   curve-rest p C c   what is checked behind the form, in order: 3, 4, 5
+--   curve-stages s     the form, and then the rest
 --   AcceptedCurve s    all of it holds
+--   accepted-prime, accepted-limit, accepted-below     what an accepted curve has passed
 --   setting-of         the prime and the curve of an accepted record
 --   limit              the largest modulus, 2147483647
 use mathlib.Core.Path.{_≡_}
-use mathlib.Core.List.{List, [], _∷_}
+use mathlib.Core.List.{List, [], _∷_, _++_}
 use Prim.Native.Nat.{ℕ, _+_, _*_, _<_, _≤_}
 use lib.ListN.{length}
 use Rattle.algebra.specs.Ring.{CommRing, Field}
@@ -17,7 +23,7 @@ use Rattle.curve.specs.Curve.{Curve}
 use Rattle.nonsingular.specs.Nonsingular.{Nonsingular}
 use Rattle.layout.specs.Layout.{number2, number4}
 use Rattle.triple.specs.Setting.{Setting}
-use Rattle.record.specs.Cause.{Stage, must, Passes}
+use Rattle.record.specs.Cause.{Stage, must, Passes, Sized}
 
 abbrev pub limit : ℕ
 limit = 2147483647
@@ -50,23 +56,47 @@ equation s =
       c8 = el (modulus s) (coefficient-number s 8);
     }
 
+abbrev pub curve-form : List ℕ → List Stage
+curve-form s = must 1 (Sized s) ∷ must 2 (number2 s 2 ≡ curve-kind) ∷ must 1 (length s ≡ curve-size) ∷ []
+
+-- "p not a prime from 2 to 2147483647"
+abbrev pub prime-stage : ℕ → Stage
+prime-stage p = must 3 (Prime p × (p ≤ limit))
+
+-- "some c not below p"
+abbrev pub below-stage : ℕ → (ℕ → ℕ) → Stage
+below-stage p c = must 4 ((i : ℕ) → i < 9 → c i < p)
+
+-- "curve singular"
+abbrev pub nonsingular-stage : (p : ℕ) → Curve (Z p) → Stage
+nonsingular-stage p C = must 5 (Nonsingular C)
+
+abbrev pub curve-rest : (p : ℕ) → Curve (Z p) → (ℕ → ℕ) → List Stage
+curve-rest p C c = prime-stage p ∷ below-stage p c ∷ nonsingular-stage p C ∷ []
+
 abbrev pub curve-stages : List ℕ → List Stage
-curve-stages s =
-    must 1 ((4 ≤ length s) × (number2 s 0 ≡ length s))
-    ∷ must 2 (number2 s 2 ≡ curve-kind)
-    ∷ must 1 (length s ≡ curve-size)
-    ∷ must 3 (Prime (modulus s) × (modulus s ≤ limit))
-    ∷ must 4 ((i : ℕ) → i < 9 → coefficient-number s i < modulus s)
-    ∷ must 5 (Nonsingular (equation s))
-    ∷ []
+curve-stages s = curve-form s ++ curve-rest (modulus s) (equation s) (coefficient-number s)
 
 abbrev pub AcceptedCurve : List ℕ → Type 0
 AcceptedCurve s = Passes (curve-stages s)
 
+module _ (s : List ℕ) (A : AcceptedCurve s) where
+  abbrev pub accepted-rest : Passes (curve-rest (modulus s) (equation s) (coefficient-number s))
+  accepted-rest = A .1 .1 .1
+
+  abbrev pub accepted-prime : Prime (modulus s)
+  accepted-prime = accepted-rest .0 .0
+
+  abbrev pub accepted-limit : modulus s ≤ limit
+  accepted-limit = accepted-rest .0 .1
+
+  abbrev pub accepted-below : (i : ℕ) → i < 9 → coefficient-number s i < modulus s
+  accepted-below = accepted-rest .1 .0
+
 abbrev pub setting-of : (s : List ℕ) → AcceptedCurve s → Setting (modulus s)
 setting-of s A =
     record {
-      prime = A .1 .1 .1 .0 .0;
+      prime = accepted-prime s A;
       curve = equation s;
-      nonzero = F (modulus s) (A .1 .1 .1 .0 .0) .nontrivial;
+      nonzero = F (modulus s) (accepted-prime s A) .nontrivial;
     }

@@ -1,28 +1,30 @@
 -- What the readers require and ensure, by the cases of their answers.
 --   equation-value s       the equation by value of a curve's bytes
 --   CurveRead s a          read_curve: an accepted curve's equation, or the number of the first cause
---   OnCurve e f            e is a curve over a field of p elements with a0 ≢ 0, and f is its vector of y³
+--   On c g                 c is an accepted curve, and g its ground
 --   DivisorGiven p C s r   s is accepted, and r is the divisor by value of which s is the record
 --   DivisorRead p C s a    read_divisor: an accepted divisor by value, or the number of the first cause
+--   TwoRead p C s t a      read_two: two accepted divisors by value, or the number of the first cause
 --   NextRead p C s a       read_next: the divisor at the start of s and its length, or the number of the first cause
 use mathlib.Core.Path.{_≡_}
-use mathlib.Core.List.{List}
+use mathlib.Core.List.{List, _++_}
 use Prim.Native.Nat.{ℕ}
 use lib.ListN.{take}
-use Rattle.algebra.specs.Ring.{CommRing}
-use Rattle.prime.specs.Prime.{Prime}
 use Rattle.field.specs.Residue.{Z}
 use Rattle.curve.specs.Curve.{Curve}
 use Rattle.divisor.specs.Kind.{Kind}
 use Rattle.layout.specs.Layout.{number2}
-use Rattle.triple.specs.Equation.{curve-of, IsCube}
 use Rattle.triple.specs.declared.equation.Equation.{Equation}
+use Rattle.ground.specs.declared.Ground.{Ground}
+use Rattle.ground.specs.Ground.{GroundOf}
 use Rattle.basis.specs.Divisor.{Based}
 use Rattle.basis.specs.declared.Divisor.{Divisor}
 use Rattle.record.specs.declared.CurveAnswer.{CurveAnswer}
 use Rattle.record.specs.declared.CurveAnswer.the-variants as curve
 use Rattle.record.specs.declared.DivisorAnswer.{DivisorAnswer}
 use Rattle.record.specs.declared.DivisorAnswer.the-variants as divisor
+use Rattle.record.specs.declared.TwoAnswer.{TwoAnswer}
+use Rattle.record.specs.declared.TwoAnswer.the-variants as two
 use Rattle.record.specs.declared.NextAnswer.{NextAnswer}
 use Rattle.record.specs.declared.NextAnswer.the-variants as next
 use Rattle.record.specs.Cause.{FirstCause, Passes}
@@ -51,10 +53,9 @@ abbrev pub CurveRead : List ℕ → CurveAnswer → Type 0
 CurveRead s (curve.Curve e) = AcceptedCurve s × (e ≡ equation-value s)
 CurveRead s (curve.Refused n) = FirstCause (curve-stages s) n
 
-pub record OnCurve (e : Equation) (f : List ℕ) : Type 0 where
-  pub prime : Prime (e .p)
-  pub nonzero : ¬ (curve-of e .a0 ≡ Z (e .p) .zero)
-  pub is-cube : IsCube e f
+pub record On (c : List ℕ) (g : Ground) : Type 0 where
+  pub accepted : AcceptedCurve c
+  pub ground : GroundOf (equation-value c) g
 
 module _ (p : ℕ) (C : Curve (Z p)) where
   pub record DivisorGiven (s : List ℕ) (r : Divisor) : Type 0 where
@@ -66,6 +67,10 @@ module _ (p : ℕ) (C : Curve (Z p)) where
   abbrev pub DivisorRead : List ℕ → DivisorAnswer → Type 0
   DivisorRead s (divisor.Divisor r) = DivisorGiven s r
   DivisorRead s (divisor.Refused n) = FirstCause (divisor-stages p C s) n
+
+  abbrev pub TwoRead : (s t : List ℕ) → TwoAnswer → Type 0
+  TwoRead s t (two.Two x y) = DivisorGiven s x × DivisorGiven t y
+  TwoRead s t (two.Refused n) = FirstCause (divisor-stages p C s ++ divisor-stages p C t) n
 
   abbrev pub NextRead : List ℕ → NextAnswer → Type 0
   NextRead s (next.Next r n) = Passes (next-stages p C s) × (n ≡ number2 s 0) × DivisorGiven (take n s) r

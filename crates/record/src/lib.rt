@@ -1,30 +1,40 @@
 // Curve and divisor records in bytes: reading, refusing and writing. specs/ says what is accepted and what is refused.
 use basis::Divisor;
+use ground::Ground;
 use triple::equation::Equation;
 ghost use mathlib.Core.Path.{_≡_};
 ghost use mathlib.Core.List.{[], _∷_};
-ghost use Prim.Native.Nat.{_≤_};
+ghost use Prim.Native.Nat.{ℕ, _<_, _≤_};
 ghost use Rattle.basis.specs.Divisor.{numbers};
-ghost use Rattle.record.specs.Contract.{Answers, Checked, Sized, Known, Counted, AllBelow, Word, ValueOf, WriteAsked, WriteAnswer, curve-form, divisor-form, coefficients, equation-stages};
-ghost use Rattle.record.specs.Reading.{OnCurve, equation-value, CurveRead, DivisorRead, NextRead};
-ghost use Rattle.triple.specs.Equation.{curve-of};
+ghost use Rattle.ground.specs.Ground.{Grounded, AtGround};
+ghost use Rattle.record.specs.Cause.{Sized};
+ghost use Rattle.record.specs.Curve.{curve-form};
+ghost use Rattle.record.specs.Divisor.{divisor-form};
+ghost use Rattle.record.specs.Contract.{Answers, Checked, Known, Counted, AllBelow, Word, ValueOf, WriteAsked, WriteAnswer, coefficient-of, equation-stages};
+ghost use Rattle.record.specs.Reading.{equation-value, CurveRead, DivisorRead, TwoRead, NextRead};
 
 // An accepted curve, or the number of the first cause of refusal.
 pub enum CurveAnswer {
     Curve(Equation),
-    Refused(u32),
+    Refused(u8),
 }
 
 // An accepted divisor, or the number of the first cause of refusal.
 pub enum DivisorAnswer {
     Divisor(Divisor),
-    Refused(u32),
+    Refused(u8),
+}
+
+// Two accepted divisors, or the number of the first cause of refusal.
+pub enum TwoAnswer {
+    Two(Divisor, Divisor),
+    Refused(u8),
 }
 
 // An accepted divisor and the length of its record, or the number of the first cause of refusal.
 pub enum NextAnswer {
     Next(Divisor, usize),
-    Refused(u32),
+    Refused(u8),
 }
 
 // Is the length field that of the bytes given?
@@ -58,7 +68,7 @@ fn three_below(p: u32, a: u32, b: u32, c: u32) -> bool
 }
 
 // The refusal of a curve for its size, its kind or its kind's length; 0 for none.
-fn curve_form(s: &[u8]) -> u32
+fn curve_form(s: &[u8]) -> u8
     ensures { λ r. ⌜ Checked (curve-form (now (s .entry))) r ⌝ }
 {
     if !sized(s) {
@@ -96,7 +106,7 @@ fn equation(s: &[u8]) -> Equation
 
 // Are all coefficients below p?
 fn coefficients_below(e: Equation) -> bool
-    ensures { λ b. ⌜ Answers (AllBelow (e .p) (coefficients e)) b ⌝ }
+    ensures { λ b. ⌜ Answers ((i : ℕ) → i < 9 → coefficient-of e i < e .p) b ⌝ }
 {
     if !three_below(e.p, e.c0, e.c1, e.c2) {
         return false;
@@ -108,7 +118,7 @@ fn coefficients_below(e: Equation) -> bool
 }
 
 // The refusal of a curve for its modulus, a coefficient or a singular point; 0 for none.
-fn equation_cause(e: Equation) -> u32
+fn equation_cause(e: Equation) -> u8
     requires { ⌜ e .a0 ≡ 1 ⌝ }
     ensures { λ r. ⌜ Checked (equation-stages e) r ⌝ }
 {
@@ -186,7 +196,7 @@ fn count_of(kind: u32) -> usize
 }
 
 // The refusal of a divisor for its size, its kind or its kind's length; 0 for none.
-fn divisor_form(s: &[u8]) -> u32
+fn divisor_form(s: &[u8]) -> u8
     ensures { λ r. ⌜ Checked (divisor-form (now (s .entry))) r ⌝ }
 {
     if !sized(s) {
@@ -246,29 +256,47 @@ fn all_below(p: u32, r: Divisor) -> bool
     three_below(p, r.n6, r.n7, r.n8)
 }
 
-// A divisor on the curve e, of which f is the vector of y³: accepted or refused.
-pub fn read_divisor(e: Equation, f: &[u32; 26], s: &[u8]) -> DivisorAnswer
-    requires { ⌜ OnCurve e (now f) ⌝ }
-    ensures { λ r. ⌜ DivisorRead (e .p) (curve-of e) (now (s .entry)) r ⌝ }
+// A divisor on the curve of g: accepted or refused.
+pub fn read_divisor(g: Ground, s: &[u8]) -> DivisorAnswer
+    requires { ⌜ Grounded g ⌝ }
+    ensures { λ r. ⌜ AtGround g (λ p C. DivisorRead p C (now (s .entry)) r) ⌝ }
 {
     let form = divisor_form(s);
     if form != 0 {
         return DivisorAnswer::Refused(form);
     }
     let r = value(s);
-    if !all_below(e.p, r) {
+    if !all_below(g.p, r) {
         return DivisorAnswer::Refused(8);
     }
-    if !basis::is_basis(e.p, f, r) {
+    if !basis::is_basis(g, r) {
         return DivisorAnswer::Refused(9);
     }
     DivisorAnswer::Divisor(r)
 }
 
+// Two divisors on the curve of g, the first one first: accepted or refused.
+pub fn read_two(g: Ground, a: &[u8], b: &[u8]) -> TwoAnswer
+    requires { ⌜ Grounded g ⌝ }
+    ensures { λ r. ⌜ AtGround g (λ p C. TwoRead p C (now (a .entry)) (now (b .entry)) r) ⌝ }
+{
+    let first = read_divisor(g, a);
+    match first {
+        DivisorAnswer::Divisor(x) => {
+            let second = read_divisor(g, b);
+            match second {
+                DivisorAnswer::Divisor(y) => TwoAnswer::Two(x, y),
+                DivisorAnswer::Refused(n) => TwoAnswer::Refused(n),
+            }
+        }
+        DivisorAnswer::Refused(n) => TwoAnswer::Refused(n),
+    }
+}
+
 // The divisor that starts at the start of s, the bytes left of a list, and the length of its record.
-pub fn read_next(e: Equation, f: &[u32; 26], s: &[u8]) -> NextAnswer
-    requires { ⌜ OnCurve e (now f) ⌝ }
-    ensures { λ r. ⌜ NextRead (e .p) (curve-of e) (now (s .entry)) r ⌝ }
+pub fn read_next(g: Ground, s: &[u8]) -> NextAnswer
+    requires { ⌜ Grounded g ⌝ }
+    ensures { λ r. ⌜ AtGround g (λ p C. NextRead p C (now (s .entry)) r) ⌝ }
 {
     if s.len() < 4 {
         return NextAnswer::Refused(6);
@@ -280,7 +308,7 @@ pub fn read_next(e: Equation, f: &[u32; 26], s: &[u8]) -> NextAnswer
     if s.len() < n {
         return NextAnswer::Refused(6);
     }
-    let read = read_divisor(e, f, &s[..n]);
+    let read = read_divisor(g, &s[..n]);
     match read {
         DivisorAnswer::Divisor(r) => NextAnswer::Next(r, n),
         DivisorAnswer::Refused(cause) => NextAnswer::Refused(cause),

@@ -4,10 +4,9 @@ use mathlib.Core.Logic.{inl}
 use native.Mathlib.Omega.{arith}
 use borrow.Author.Tests.{not-true, not-false}
 use denote.Ref.{now}
-use Rattle.triple.specs.Equation.{curve-of}
-use Rattle.record.specs.Contract.{divisor-form}
+use Rattle.record.specs.Divisor.{divisor-form, divisor-rest}
 use Rattle.record.proofs.Cause.{first-append}
-use Rattle.record.proofs.DivisorReader.{divisor-rest, refused-8, basis-asked, found-no-basis, found-basis}
+use Rattle.record.proofs.DivisorReader.{refused-8, basis-asked, found-no-basis, found-basis}
 use Rattle.record.proofs.read_divisor.Statement.{statement}
 use Rattle.record.proofs.read_divisor.Tie as tie
 
@@ -15,10 +14,9 @@ divisor-form-requires : tie.Need-divisor-form-requires
 divisor-form-requires c κs = search needs
 
 returns : tie.Need-returns
-returns c =
+returns c G =
     let s = now (c .before .before .before .args .s) in
-    let e = c .before .before .before .args .e in
-    first-append (divisor-form s) (divisor-rest (e .p) (curve-of e) s) _ .1 (inl (c .before .divisor-form .ensures .cause (c .if1 .taken)))
+    first-append (divisor-form s) (divisor-rest _ (G .ready .setting .curve) s) _ .1 (inl (c .before .divisor-form .ensures .cause (c .if1 .taken)))
 
 value-requires : tie.Need-value-requires
 value-requires c κs = (c .before .divisor-form .ensures .passes (c .if1 .left)) .0 .0
@@ -27,42 +25,38 @@ all-below-requires : tie.Need-all-below-requires
 all-below-requires c κs = search needs
 
 returns-2 : tie.Need-returns-2
-returns-2 c =
+returns-2 c G =
     let a = c .before .before .before .before .before .before .args in
-    let o = c .before .before .before .before .before .before .pre in
     let form = c .before .before .before .before .divisor-form .ensures .passes (c .before .before .before .if1 .left) in
     let r = c .before .before .value .result in
     let v = c .before .before .value .ensures in
-    refused-8 (a .e .p) (o .prime) (now (a .s)) r v form (curve-of (a .e)) (c .before .all-below .ensures .fails (not-true _ (c .if2 .taken)))
+    refused-8 (a .g .p) (G .ready .setting .prime) (now (a .s)) r v form (G .ready .setting .curve) (c .before .all-below .ensures .fails (not-true _ (c .if2 .taken)))
 
 is-basis-requires : tie.Need-is-basis-requires
 is-basis-requires c κs =
     let a = c .before .before .before .before .before .before .args in
-    let o = c .before .before .before .before .before .before .pre in
     let form = c .before .before .before .before .divisor-form .ensures .passes (c .before .before .before .if1 .left) in
     let r = c .before .before .value .result in
     let v = c .before .before .value .ensures in
-    basis-asked (a .e) (now (a .f)) (now (a .s)) r o v form (c .before .all-below .ensures .holds (not-false _ (c .if2 .left)))
+    basis-asked (now (a .s)) r v form (c .before .all-below .ensures .holds (not-false _ (c .if2 .left))) (c .before .before .before .before .before .before .pre)
 
 returns-3 : tie.Need-returns-3
-returns-3 c =
+returns-3 c G =
     let a = c .before .before .before .before .before .before .before .before .args in
-    let o = c .before .before .before .before .before .before .before .before .pre in
     let form = c .before .before .before .before .before .before .divisor-form .ensures .passes (c .before .before .before .before .before .if1 .left) in
     let r = c .before .before .before .before .value .result in
     let v = c .before .before .before .before .value .ensures in
     let below = c .before .before .before .all-below .ensures .holds (not-false _ (c .before .before .if2 .left)) in
-    found-no-basis (a .e) (now (a .f)) (now (a .s)) r o v form below _ (c .before .is-basis .ensures) (not-true _ (c .if3 .taken))
+    found-no-basis (now (a .s)) r v form below G (c .before .is-basis .ensures) (not-true _ (c .if3 .taken))
 
 returns-4 : tie.Need-returns-4
-returns-4 c =
+returns-4 c G =
     let a = c .before .before .before .before .before .before .before .before .args in
-    let o = c .before .before .before .before .before .before .before .before .pre in
     let form = c .before .before .before .before .before .before .divisor-form .ensures .passes (c .before .before .before .before .before .if1 .left) in
     let r = c .before .before .before .before .value .result in
     let v = c .before .before .before .before .value .ensures in
     let below = c .before .before .before .all-below .ensures .holds (not-false _ (c .before .before .if2 .left)) in
-    found-basis (a .e) (now (a .f)) (now (a .s)) r o v form below _ (c .before .is-basis .ensures) (not-false _ (c .if3 .left))
+    found-basis (now (a .s)) r v form below G (c .before .is-basis .ensures) (not-false _ (c .if3 .left))
     (λ i. omega (arith, c .before .before .before .before .before .before .before .shared-slice-known .given i))
 
 pub read-divisor-spec : {M : Type 1} → statement M

@@ -4,13 +4,12 @@ use native.Mathlib.Omega.{arith}
 use mathlib.Core.Path.{sym}
 use lib.Seq.{length-take-le}
 use denote.Ref.{now}
-use Rattle.triple.specs.Equation.{curve-of}
 use Rattle.record.proofs.DivisorReader.{next-short, next-field, next-is-given, next-is-refused}
 use Rattle.record.proofs.read_next.Statement.{statement}
 use Rattle.record.proofs.read_next.Tie as tie
 
 returns : tie.Need-returns
-returns c = next-short _ _ _ (c .if1 .taken)
+returns c G = next-short _ (G .ready .setting .curve) _ (c .if1 .taken)
 
 read-u16-requires : tie.Need-read-u16-requires
 read-u16-requires c κs = search needs
@@ -19,10 +18,10 @@ cast-n : tie.Need-cast-n
 cast-n c = search needs
 
 returns-2 : tie.Need-returns-2
-returns-2 c = next-field _ _ _ (c .before .before .if1 .left) (λ h. omega (arith, c .if2 .taken, c .before .read-u16 .ensures .is))
+returns-2 c G = next-field _ (G .ready .setting .curve) _ (c .before .before .if1 .left) (λ h. omega (arith, c .if2 .taken, c .before .read-u16 .ensures .is))
 
 returns-3 : tie.Need-returns-3
-returns-3 c = next-field _ _ _ (c .before .before .before .if1 .left) (λ h. omega (arith, c .if3 .taken, c .before .before .read-u16 .ensures .is))
+returns-3 c G = next-field _ (G .ready .setting .curve) _ (c .before .before .before .if1 .left) (λ h. omega (arith, c .if3 .taken, c .before .before .read-u16 .ensures .is))
 
 slice-aggregate-read-divisor : tie.Need-slice-aggregate-read-divisor
 slice-aggregate-read-divisor c = sym (length-take-le _ _ (c .before .if3 .left))
@@ -37,11 +36,11 @@ enum-known-read-2 : tie.Need-enum-known-read-2
 enum-known-read-2 c = search needs
 
 returns-4 : tie.Need-returns-4
-returns-4 c =
+returns-4 c G =
     let a = c .before .before .before .before .before .before .before .before .before .before .args in
     next-is-given
-    (a .e .p)
-    (curve-of (a .e))
+    (a .g .p)
+    (G .ready .setting .curve)
     (now (a .s))
     (c .before .before .before .before .before .before .before .before .if1 .left)
     (c .before .before .before .before .before .before .before .read-u16 .result)
@@ -50,15 +49,15 @@ returns-4 c =
     (c .before .before .before .before .before .if3 .left)
     (c .before .before .before .read-divisor .result)
     _
-    (c .before .before .before .read-divisor .ensures)
+    (c .before .before .before .read-divisor .ensures G)
     (c .before .read .given .1)
 
 returns-5 : tie.Need-returns-5
-returns-5 c =
+returns-5 c G =
     let a = c .before .before .before .before .before .before .before .before .before .before .args in
     next-is-refused
-    (a .e .p)
-    (curve-of (a .e))
+    (a .g .p)
+    (G .ready .setting .curve)
     (now (a .s))
     (c .before .before .before .before .before .before .before .before .if1 .left)
     (c .before .before .before .before .before .before .before .read-u16 .result)
@@ -67,7 +66,7 @@ returns-5 c =
     (c .before .before .before .before .before .if3 .left)
     (c .before .before .before .read-divisor .result)
     _
-    (c .before .before .before .read-divisor .ensures)
+    (c .before .before .before .read-divisor .ensures G)
     (c .before .read2 .given .1)
 
 pub read-next-spec : {M : Type 1} → statement M
