@@ -39,7 +39,7 @@ use Rattle.curve.specs.Poles.{poles}
 use Rattle.divisor.specs.Kind.{Kind, k0}
 use Rattle.divisor.proofs.Basis.{basis-footprint}
 use Rattle.layout.proofs.Bytes.{bytes-record}
-use Rattle.record.specs.Curve.{modulus, equation, AcceptedCurve, setting-of}
+use Rattle.record.specs.Curve.{modulus, equation, AcceptedCurve, setting-of, accepted-prime}
 use Rattle.record.specs.Divisor.{number-at, AcceptedDivisor}
 use Rattle.record.specs.Listed.{AllAccepted}
 use Rattle.record.proofs.Accepted.{Reads, accepted-reads, reads-accepted, ideal-reads}
@@ -80,7 +80,7 @@ module _ (c : List ℕ) (A : AcceptedCurve c) where
 pub poles-same : (c : List ℕ) (A A′ : AcceptedCurve c) → poles-on c A ≡ poles-on c A′
 poles-same c A A′ =
     ap (λ (q : Prime (modulus c)). poles (F (modulus c) q) (equation c) (F (modulus c) q .nontrivial))
-    (prime-prop (modulus c) (A .1 .1 .1 .0 .0) (A′ .1 .1 .1 .0 .0))
+    (prime-prop (modulus c) (accepted-prime c A) (accepted-prime c A′))
 
 module _ (c : List ℕ) (A : AcceptedCurve c) where
   pub class-reduced : {J : Ring c .Car → Type 0} (w : List ℕ) → Record c w → Equivalent (Ring c) J (Ideal c w) → ReducedOf c J w

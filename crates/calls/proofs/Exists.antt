@@ -18,7 +18,7 @@ use Rattle.ideal.proofs.Same.{same-sym, same-trans}
 use Rattle.ideal.proofs.Star.{star-exists, star-small}
 use Rattle.ideal.proofs.Finite.{BasedIdeal, product-based, productof-based}
 use Rattle.record.specs.Cause.{Stage, Passes}
-use Rattle.record.specs.Curve.{modulus, equation, curve-stages, AcceptedCurve, setting-of}
+use Rattle.record.specs.Curve.{modulus, equation, curve-stages, AcceptedCurve, setting-of, accepted-limit}
 use Rattle.record.specs.Listed.{Listed, list-limit}
 use Rattle.record.proofs.Cause.{passes-append, first-append}
 use Rattle.record.proofs.Suffices.{OneRecord, RecordWith, ReducedRecord, record-with, record-reduced}
@@ -33,7 +33,7 @@ module _ (c : List ℕ) (A : AcceptedCurve c) where
   P = poles-on c A
 
   pub reduced-record : {J : Ring c .Car → Type 0} → BasedIdeal P J → (w : List ℕ) × ReducedOf c J w
-  reduced-record {J} b = go (record-reduced (setting-of c A) (A .1 .1 .1 .0 .1) b)
+  reduced-record {J} b = go (record-reduced (setting-of c A) (accepted-limit c A) b)
     where
       go : OneRecord (ReducedRecord (setting-of c A) J) → (w : List ℕ) × ReducedOf c J w
       go o = (o .bytes, record { curve = A; accepted = (o .has .bytes, o .has .accepted); reduced = o .has .reduced })
@@ -45,7 +45,7 @@ module _ (c : List ℕ) (A : AcceptedCurve c) where
   negative-record a h = go (star-exists P (accepted-based c A a h))
     where
       go : (f : Ring c .Car) × IsStar P (Ideal c a) (Colon (Ring c) f (Ideal c a)) → (w : List ℕ) × IsNegative c a w
-      go (f, s) = at (record-with (setting-of c A) (A .1 .1 .1 .0 .1) (star-small P (accepted-based c A a h) s))
+      go (f, s) = at (record-with (setting-of c A) (accepted-limit c A) (star-small P (accepted-based c A a h) s))
         where
           at : OneRecord (RecordWith (setting-of c A) (Colon (Ring c) f (Ideal c a))) → (w : List ℕ) × IsNegative c a w
           at o = (o .bytes, record { curve = A; accepted = (o .has .bytes, o .has .accepted); star = star })

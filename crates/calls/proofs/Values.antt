@@ -16,7 +16,7 @@ use Rattle.ideal.proofs.Colon.{colon-same}
 use Rattle.divisor.specs.Kind.{Kind, IdealOf}
 use Rattle.basis.specs.Divisor.{residues, Shaped, Based}
 use Rattle.basis.specs.declared.Divisor.{Divisor}
-use Rattle.record.specs.Curve.{modulus, equation, AcceptedCurve}
+use Rattle.record.specs.Curve.{modulus, equation, AcceptedCurve, accepted-limit}
 use Rattle.record.specs.Value.{bytes-of}
 use Rattle.record.proofs.Written.{bytes-bytes-of, bytes-of-accepted, bytes-of-ideal}
 use Rattle.calls.specs.Class.{Ring, Record, Ideal}
@@ -43,7 +43,7 @@ module _ {R : CommRing} (P : Poles R) where
 
 module _ (c : List ℕ) (A : AcceptedCurve c) where
   fits : modulus c ≤ 4294967296
-  fits = omega (arith, A .1 .1 .1 .0 .1)
+  fits = omega (arith, accepted-limit c A)
 
   -- the ideal of a divisor by value
   abbrev pub ValueIdeal : Kind → Divisor → Ring c .Car → Type 0

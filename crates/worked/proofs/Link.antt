@@ -25,7 +25,7 @@ use Rattle.ideal.proofs.Generated.{generated-ideal, generated-in, products, gen
 use Rattle.ideal.proofs.Class.{equivalent-same, equivalent-trans}
 use Rattle.curve.specs.Curve.{Coordinate}
 use Rattle.divisor.specs.Kind.{Kind}
-use Rattle.record.specs.Curve.{modulus, coefficient-number, equation, AcceptedCurve}
+use Rattle.record.specs.Curve.{modulus, coefficient-number, equation, AcceptedCurve, accepted-prime}
 use Rattle.record.specs.Divisor.{of-kind}
 use Rattle.record.proofs.Accepted.{ideal-reads}
 use Rattle.calls.specs.Class.{Ring, Record, Ideal, poles-on, IsSum}
@@ -169,5 +169,5 @@ module _ (c : List ℕ) where
     sum-sound r k t =
         class-reduced c A w r
         (equivalent-trans (poles-on c A) (equivalent-same (poles-on c A) product-values)
-        (equivalent-trans (poles-on c A) (linked-sound p n (omega (arith, A .1 .1 .1 .0 .0 .two-le)) gs (polynomials-of κw w) k t)
+        (equivalent-trans (poles-on c A) (linked-sound p n (omega (arith, accepted-prime c A .two-le)) gs (polynomials-of κw w) k t)
         (equivalent-same (poles-on c A) (same-sym (Ring c) (ideal-values κw w ew)))))

@@ -33,7 +33,7 @@ use Rattle.divisor.proofs.Table.{degree, remaining-poles, kind-by, class-by}
 use Rattle.divisor.proofs.Members.{member, member-monic}
 use Rattle.divisor.proofs.Basis.{basis-lead, lead-basis}
 use Rattle.divisor.proofs.Star.{star-recognised}
-use Rattle.record.specs.Curve.{modulus, coefficient-number, equation, AcceptedCurve}
+use Rattle.record.specs.Curve.{modulus, coefficient-number, equation, AcceptedCurve, accepted-prime}
 use Rattle.record.specs.Divisor.{of-kind, number-at}
 use Rattle.record.proofs.Accepted.{Reads, ideal-reads}
 use Rattle.calls.specs.Class.{Ring, Record, Ideal, poles-on, IsNegative}
@@ -153,7 +153,7 @@ module _ (c : List ℕ) (A : AcceptedCurve c) (a w : List ℕ) (κa κw : Kind) 
   Q = poles-on c A
 
   abbrev F : Field
-  F = field.F p (A .1 .1 .1 .0 .0)
+  F = field.F p (accepted-prime c A)
 
   -- the ideals of a and w, with their kinds
   abbrev Ia : Ring c .Car → Type 0

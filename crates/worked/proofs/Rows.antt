@@ -16,7 +16,7 @@ use Rattle.algebra.proofs.Norm.{E, both}
 use Rattle.prime.specs.Prime.{Prime}
 use Rattle.ideal.proofs.Every.{Every}
 use Rattle.record.specs.Cause.{Passes, FirstCause}
-use Rattle.record.specs.Curve.{modulus, curve-stages, AcceptedCurve}
+use Rattle.record.specs.Curve.{modulus, curve-stages, AcceptedCurve, accepted-prime}
 use Rattle.record.proofs.Cause.{passes-append}
 use Rattle.calls.specs.Answer.{minus, written, refused, answered}
 use Rattle.calls.specs.Class.{IsSum, IsListSum}
@@ -70,7 +70,7 @@ test (curve-accepted c) k = smooth c k
 
 module _ (c : List ℕ) (A : AcceptedCurve c) where
   abbrev h : Prime (modulus c)
-  h = A .1 .1 .1 .0 .0
+  h = accepted-prime c A
 
   added-sound : (a b w : List ℕ) (ka kb kw : Known) (k : Link) → T (known c a ka) → T (known c b kb) → T (added c a b w ka kb kw k)
       → IsSum c a b w
