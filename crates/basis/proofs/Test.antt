@@ -5,20 +5,21 @@ use mathlib.Core.List.{List}
 use mathlib.Core.Bool.{Bool}
 use Prim.Native.Nat.{ℕ}
 use Rattle.triple.specs.Contract.{ClosedAsked, ClosedTest}
+use Rattle.ground.specs.declared.Ground.{Ground}
 use Rattle.basis.specs.declared.Divisor.{Divisor}
 use Rattle.basis.specs.Contract.{Tripled, TripleOf, BasisAsked, BasisTest}
 use Rattle.basis.proofs.Ideal.{triple-closed, triple-open}
 
-module _ {p : ℕ} {f : List ℕ} {r : Divisor} {t : List (List ℕ)} {d : List ℕ} (o : TripleOf r t d) where
-  pub closed-asked : BasisAsked p f r → ClosedAsked p f t d
-  closed-asked a = record { ready = a .ready; full = h .full; small = h .small }
+module _ {g : Ground} {r : Divisor} {t : List (List ℕ)} {d : List ℕ} (o : TripleOf r t d) where
+  pub closed-asked : BasisAsked g r → ClosedAsked (g .p) (g .cube) t d
+  closed-asked a = record { ready = a .grounded .ready; full = h .full; small = h .small }
     where
-      h : Tripled p (a .kind) r t d
-      h = o .of p (a .kind) (a .ready .setting .prime) (a .shaped)
+      h : Tripled (g .p) (a .kind) r t d
+      h = o .of (g .p) (a .kind) (a .grounded .ready .setting .prime) (a .shaped)
 
-  pub basis-test : {b : Bool} → ClosedTest p f t d b → BasisTest p f r b
+  pub basis-test : {b : Bool} → ClosedTest (g .p) (g .cube) t d b → BasisTest g r b
   basis-test c =
       record {
-        yes-basis = λ e R κ s. triple-closed (o .of p κ (R .setting .prime) s) (R .setting) (c .yes-closed e R);
-        no-basis = λ e R κ s. triple-open (o .of p κ (R .setting .prime) s) R (c .no-closed e R);
+        yes-basis = λ e G κ s. triple-closed (o .of (g .p) κ (G .ready .setting .prime) s) (G .ready .setting) (c .yes-closed e (G .ready));
+        no-basis = λ e G κ s. triple-open (o .of (g .p) κ (G .ready .setting .prime) s) (G .ready) (c .no-closed e (G .ready));
       }

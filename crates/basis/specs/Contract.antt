@@ -16,9 +16,10 @@ use Rattle.divisor.specs.Kind.{Kind, k0, k11, k21, k22, k31, IsBasis}
 use Rattle.divisor.proofs.Table.{degree}
 use Rattle.divisor.proofs.Members.{members}
 use Rattle.vector.specs.Vector.{width, element}
-use Rattle.triple.specs.Setting.{Ready}
 use Rattle.triple.specs.Triple.{Full}
 use Rattle.triple.specs.Contract.{Small}
+use Rattle.ground.specs.declared.Ground.{Ground}
+use Rattle.ground.specs.Ground.{Grounded}
 use Rattle.basis.specs.declared.Divisor.{Divisor}
 use Rattle.basis.specs.Divisor.{residues, Shaped}
 
@@ -49,11 +50,11 @@ pub record Tripled (p : ℕ) (κ : Kind) (r : Divisor) (t : List (List ℕ)) (d 
 pub record TripleOf (r : Divisor) (t : List (List ℕ)) (d : List ℕ) : Type 0 where
   pub of : (p : ℕ) (κ : Kind) → Prime p → Shaped p κ r → Tripled p κ r t d
 
-pub record BasisAsked (p : ℕ) (f : List ℕ) (r : Divisor) : Type 0 where
-  pub ready : Ready p f
+pub record BasisAsked (g : Ground) (r : Divisor) : Type 0 where
+  pub grounded : Grounded g
   pub kind : Kind
-  pub shaped : Shaped p kind r
+  pub shaped : Shaped (g .p) kind r
 
-pub record BasisTest (p : ℕ) (f : List ℕ) (r : Divisor) (b : Bool) : Type 0 where
-  pub yes-basis : b ≡ true → (R : Ready p f) (κ : Kind) → Shaped p κ r → IsBasis (R .setting .curve) κ (residues p r)
-  pub no-basis : b ≡ false → (R : Ready p f) (κ : Kind) → Shaped p κ r → ¬ IsBasis (R .setting .curve) κ (residues p r)
+pub record BasisTest (g : Ground) (r : Divisor) (b : Bool) : Type 0 where
+  pub yes-basis : b ≡ true → (G : Grounded g) (κ : Kind) → Shaped (g .p) κ r → IsBasis (G .ready .setting .curve) κ (residues (g .p) r)
+  pub no-basis : b ≡ false → (G : Grounded g) (κ : Kind) → Shaped (g .p) κ r → ¬ IsBasis (G .ready .setting .curve) κ (residues (g .p) r)
