@@ -21,8 +21,10 @@ use Rattle.ideal.proofs.Every.{Every}
 use Rattle.ideal.proofs.Class.{equivalent-same, equivalent-sym, equivalent-trans}
 use Rattle.ideal.proofs.Product.{productof-one, productof-join}
 use Rattle.triple.specs.Setting.{Setting, ring, poles-of}
+use Rattle.ground.specs.declared.Ground.{Ground}
+use Rattle.ground.specs.Ground.{Grounded}
 use Rattle.basis.specs.declared.Divisor.{Divisor}
-use Rattle.group.specs.Contract.{Ground, IsDivisor, ideal, SumAsked, SumOf, IsMultiple, ZeroClass}
+use Rattle.group.specs.Contract.{IsDivisor, ideal, SumAsked, SumOf, IsMultiple, ZeroClass}
 use Rattle.group.proofs.Divisor.{divisor-footprint, kind-zero, zero-divisor}
 use Rattle.group.proofs.Sums.{sum-equivalent}
 
@@ -41,8 +43,8 @@ even-total n i j e = ring (n / 2) i j ∙ ap (λ u. i + u * (1 * j)) (omega arit
 double-total : (n i j : ℕ) → i + n * (1 * (j + j)) ≡ i + n * (2 * j)
 double-total n i j = omega arith
 
-module _ {p k : ℕ} {f : List ℕ} (G : Ground p k f) {a : Divisor} (D : IsDivisor (G .ready .setting) a) where
-  abbrev S : Setting p
+module _ {g : Ground} (G : Grounded g) {a : Divisor} (D : IsDivisor (G .ready .setting) a) where
+  abbrev S : Setting (g .p)
   S = G .ready .setting
 
   abbrev I : Unit {0} → ring S .Car → Type 0
@@ -58,9 +60,9 @@ module _ {p k : ℕ} {f : List ℕ} (G : Ground p k f) {a : Divisor} (D : IsDivi
   pub copies-one : IsMultiple S a D 1 a
   copies-one = (D, equivalent-same (poles-of S) (productof-one (ring S) I tt (divisor-footprint S D .ideal)))
 
-  pub copies-sum : (i j : ℕ) {x y r : Divisor} → IsMultiple S a D i x → IsMultiple S a D j y → SumOf p k f x y r → IsMultiple S a D (i + j) r
+  pub copies-sum : (i j : ℕ) {x y r : Divisor} → IsMultiple S a D i x → IsMultiple S a D j y → SumOf g x y r → IsMultiple S a D (i + j) r
   copies-sum i j (X, e) (Y, e′) s =
-      let z = sum-equivalent s (record { ground = G; a-is = X; b-is = Y }) in
+      let z = sum-equivalent s (record { grounded = G; a-is = X; b-is = Y }) in
       let join = productof-join (poles-of S) I (replicate i tt) (replicate j tt) (copies-ideal i) (copies-ideal j) (equivalent-sym (poles-of S) e) (equivalent-sym (poles-of S) e′) in
       (z .0, subst (λ us. Equivalent (ring S) (ProductOf (ring S) I us) (ideal S _ (z .0))) (replicate-append-replicate i j tt) (equivalent-trans (poles-of S) (equivalent-sym (poles-of S) join) (z .1)))
 
@@ -71,17 +73,17 @@ module _ {p k : ℕ} {f : List ℕ} (G : Ground p k f) {a : Divisor} (D : IsDivi
     pub b-is : IsMultiple S a D j b
     pub total : i + n * (w * j) ≡ m
 
-  pub held-add : {m w : ℕ} {r b : Divisor} {n : ℕ} → Held m w r b n → SumAsked p k f r b
-  held-add h = record { ground = G; a-is = h .r-is .0; b-is = h .b-is .0 }
+  pub held-add : {m w : ℕ} {r b : Divisor} {n : ℕ} → Held m w r b n → SumAsked g r b
+  held-add h = record { grounded = G; a-is = h .r-is .0; b-is = h .b-is .0 }
 
-  pub held-twice : {m w : ℕ} {r b : Divisor} {n : ℕ} → Held m w r b n → SumAsked p k f b b
-  held-twice h = record { ground = G; a-is = h .b-is .0; b-is = h .b-is .0 }
+  pub held-twice : {m w : ℕ} {r b : Divisor} {n : ℕ} → Held m w r b n → SumAsked g b b
+  held-twice h = record { grounded = G; a-is = h .b-is .0; b-is = h .b-is .0 }
 
   module _ {m : ℕ} where
     pub held-start : {r : Divisor} → ZeroClass r → Held m 1 r a m
     held-start z = record { i = 0; j = 1; r-is = copies-none z; b-is = copies-one; total = omega arith }
 
-    pub held-odd : {r b s : Divisor} {n : ℕ} → Held m 1 r b n → n % 2 ≡ 1 → SumOf p k f r b s → Held m 2 s b (n / 2)
+    pub held-odd : {r b s : Divisor} {n : ℕ} → Held m 1 r b n → n % 2 ≡ 1 → SumOf g r b s → Held m 2 s b (n / 2)
     held-odd {n = n} h e q =
         record { i = h .i + h .j; j = h .j; r-is = copies-sum (h .i) (h .j) (h .r-is) (h .b-is) q; b-is = h .b-is; total = odd-total n (h .i) (h .j) e ∙ h .total }
 
@@ -91,7 +93,7 @@ module _ {p k : ℕ} {f : List ℕ} (G : Ground p k f) {a : Divisor} (D : IsDivi
     pub held-done : {r b : Divisor} {n : ℕ} → Held m 2 r b n → n ≡ 0 → Held m 1 r b n
     held-done {n = n} h e = record { i = h .i; j = h .j; r-is = h .r-is; b-is = h .b-is; total = ap (λ u. h .i + u * (1 * h .j)) e ∙ omega arith ∙ ap (λ u. h .i + u * (2 * h .j)) (sym e) ∙ h .total }
 
-    pub held-double : {r b c : Divisor} {n : ℕ} → Held m 2 r b n → SumOf p k f b b c → Held m 1 r c n
+    pub held-double : {r b c : Divisor} {n : ℕ} → Held m 2 r b n → SumOf g b b c → Held m 1 r c n
     held-double {n = n} h q =
         record { i = h .i; j = h .j + h .j; r-is = h .r-is; b-is = copies-sum (h .j) (h .j) (h .b-is) (h .b-is) q; total = double-total n (h .i) (h .j) ∙ h .total }
 

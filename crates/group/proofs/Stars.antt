@@ -22,6 +22,7 @@ use Rattle.triple.specs.Setting.{Setting, ring, poles-of}
 use Rattle.triple.specs.Triple.{Spanned}
 use Rattle.triple.specs.Contract.{ProductAsked, Multiplied}
 use Rattle.triple.proofs.Leads.{spanned-lead}
+use Rattle.ground.specs.declared.Ground.{Ground}
 use Rattle.basis.specs.declared.Divisor.{Divisor}
 use Rattle.basis.specs.Contract.{TripleOf}
 use Rattle.basis.proofs.Ideal.{triple-least}
@@ -36,55 +37,53 @@ star-same {R} P e s = record { f = s .f; least = least-same P e (s .least); same
 starred : {p : ℕ} {S : Setting p} {t : List (List ℕ)} {r : Divisor} {J : ring S .Car → Type 0} → SameIdeal (ring S) (Spanned S t) J → Starred p S t r → (D : IsDivisor S r) × IsStar (poles-of S) J (ideal S r D)
 starred {S = S} e q = (record { kind = q .kind; based = q .based }, star-same (poles-of S) e (q .star))
 
-module _ {p k : ℕ} {f : List ℕ} {a : Divisor} {t : List (List ℕ)} {d : List ℕ} (h : TripleOf a t d) where
-  pub negative-asked : NegativeAsked p k f a → StarAsked p k f t d
+module _ {g : Ground} {a : Divisor} {t : List (List ℕ)} {d : List ℕ} (h : TripleOf a t d) where
+  pub negative-asked : NegativeAsked g a → StarAsked g t d
   negative-asked A =
       record {
-        ready = A .ground .ready;
-        unit = A .ground .unit;
-        full = divisor-tripled (A .ground .ready .setting) (A .a-is) h .full;
-        ideal = divisor-span (A .ground .ready .setting) (A .a-is) h;
-        small = (0, omega arith, omega (arith, triple-least (divisor-tripled (A .ground .ready .setting) (A .a-is) h)));
+        grounded = A .grounded;
+        full = divisor-tripled (A .grounded .ready .setting) (A .a-is) h .full;
+        ideal = divisor-span (A .grounded .ready .setting) (A .a-is) h;
+        small = (0, omega arith, omega (arith, triple-least (divisor-tripled (A .grounded .ready .setting) (A .a-is) h)));
       }
 
-  pub negative-of : {r : Divisor} → StarOf p k f t d r → NegativeOf p k f a r
+  pub negative-of : {r : Divisor} → StarOf g t d r → NegativeOf g a r
   unfolding negative-asked
-  negative-of s A = starred (divisor-same (A .ground .ready .setting) (A .a-is) h) (s (negative-asked A))
+  negative-of s A = starred (divisor-same (A .grounded .ready .setting) (A .a-is) h) (s (negative-asked A))
 
-module _ {p k : ℕ} {f : List ℕ} {a b : Divisor} {t₁ t₂ : List (List ℕ)} {d₁ d₂ : List ℕ} (h₁ : TripleOf a t₁ d₁) (h₂ : TripleOf b t₂ d₂) where
-  pub product-asked : SumAsked p k f a b → ProductAsked p f t₁ d₁ t₂ d₂
+module _ {g : Ground} {a b : Divisor} {t₁ t₂ : List (List ℕ)} {d₁ d₂ : List ℕ} (h₁ : TripleOf a t₁ d₁) (h₂ : TripleOf b t₂ d₂) where
+  pub product-asked : SumAsked g a b → ProductAsked (g .p) (g .cube) t₁ d₁ t₂ d₂
   product-asked A =
       record {
-        ready = A .ground .ready;
-        full₁ = divisor-tripled (A .ground .ready .setting) (A .a-is) h₁ .full;
-        small₁ = divisor-tripled (A .ground .ready .setting) (A .a-is) h₁ .small;
-        full₂ = divisor-tripled (A .ground .ready .setting) (A .b-is) h₂ .full;
-        small₂ = divisor-tripled (A .ground .ready .setting) (A .b-is) h₂ .small;
+        ready = A .grounded .ready;
+        full₁ = divisor-tripled (A .grounded .ready .setting) (A .a-is) h₁ .full;
+        small₁ = divisor-tripled (A .grounded .ready .setting) (A .a-is) h₁ .small;
+        full₂ = divisor-tripled (A .grounded .ready .setting) (A .b-is) h₂ .full;
+        small₂ = divisor-tripled (A .grounded .ready .setting) (A .b-is) h₂ .small;
       }
 
-  module _ {t : List (List ℕ)} {d : List ℕ} (m : Multiplied p f t₁ t₂ t d) (A : SumAsked p k f a b) where
-    abbrev S : Setting p
-    S = A .ground .ready .setting
+  module _ {t : List (List ℕ)} {d : List ℕ} (m : Multiplied (g .p) (g .cube) t₁ t₂ t d) (A : SumAsked g a b) where
+    abbrev S : Setting (g .p)
+    S = A .grounded .ready .setting
 
     abbrev J : ring S .Car → Type 0
     J = Product (ring S) (ideal S a (A .a-is)) (ideal S b (A .b-is))
 
     span-product : SameIdeal (ring S) (Spanned S t) J
-    span-product = same-trans (ring S) (m .same (A .ground .ready)) (product-same (ring S) (divisor-same S (A .a-is) h₁) (divisor-same S (A .b-is) h₂))
+    span-product = same-trans (ring S) (m .same (A .grounded .ready)) (product-same (ring S) (divisor-same S (A .a-is) h₁) (divisor-same S (A .b-is) h₂))
 
     low : Lead (poles-of S) (ideal S a (A .a-is)) 6 → Lead (poles-of S) (ideal S b (A .b-is)) 6 → at d 0 ≤ 12
     low (u, mu, pu) (v, mv, pv) = spanned-lead S (m .full .triple) (span-product (ring S .mul u v) .1 (product-of (ring S) mu mv)) (pole-mul (poles-of S) pu pv) .0
 
-    pub product-star-asked : StarAsked p k f t d
+    pub product-star-asked : StarAsked g t d
     product-star-asked =
         record {
-          ready = A .ground .ready;
-          unit = A .ground .unit;
+          grounded = A .grounded;
           full = m .full;
           ideal = ideal-same (ring S) (same-sym (ring S) span-product) (product-ideal (ring S) (divisor-footprint S (A .a-is) .ideal));
           small = (0, omega arith, low (divisor-footprint S (A .a-is) .leads 6 (omega arith)) (divisor-footprint S (A .b-is) .leads 6 (omega arith)));
         }
 
-  pub product-star-of : {t : List (List ℕ)} {d : List ℕ} {r : Divisor} → Multiplied p f t₁ t₂ t d → StarOf p k f t d r → ProductStarOf p k f a b r
+  pub product-star-of : {t : List (List ℕ)} {d : List ℕ} {r : Divisor} → Multiplied (g .p) (g .cube) t₁ t₂ t d → StarOf g t d r → ProductStarOf g a b r
   unfolding product-star-asked
   product-star-of m s A = starred (span-product m A) (s (product-star-asked m A))

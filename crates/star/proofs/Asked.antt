@@ -26,6 +26,7 @@ use Rattle.triple.specs.Triple.{Present, Spanned}
 use Rattle.triple.proofs.Element.{present-monic}
 use Rattle.triple.proofs.Members.{spanned-row}
 use Rattle.triple.proofs.Leads.{spanned-lead}
+use Rattle.ground.specs.declared.Ground.{Ground}
 use Rattle.star.specs.Contract.{StarAsked, LeastOf}
 use Rattle.star.proofs.Degrees.{Degrees, degrees-lowest, Steps, steps-31, steps-21, steps-22, steps-11, steps-0, steps}
 
@@ -38,9 +39,12 @@ least-of {d} {j} h a b c = record { inside = h; lowest = go }
     go (suc (suc zero)) l = c
     go (suc (suc (suc i))) l = absurd (omega arith)
 
-module _ {p k : ℕ} {f : List ℕ} {t : List (List ℕ)} {d : List ℕ} (A : StarAsked p k f t d) where
-  abbrev pub S : Setting p
-  S = A .ready .setting
+module _ {g : Ground} {t : List (List ℕ)} {d : List ℕ} (A : StarAsked g t d) where
+  abbrev p : ℕ
+  p = g .p
+
+  abbrev pub S : Setting (g .p)
+  S = A .grounded .ready .setting
 
   present : (i : ℕ) → i < 3 → Present (row t i) i (at d i)
   present i h = A .full .present i h
@@ -57,9 +61,9 @@ module _ {p k : ℕ} {f : List ℕ} {t : List (List ℕ)} {d : List ℕ} (A : St
   pub member-pole : (i : ℕ) → i < 3 → HasPole (poles-of S) (element p (S .curve) (row t i)) (at d i)
   member-pole i h = monic-pole (poles-of S) (member-monic i h)
 
-  pub y-asked : (i : ℕ) → i < 3 → at d i ≤ 17 → YMultiplesAsked p f (row t i) (at d i + 1)
+  pub y-asked : (i : ℕ) → i < 3 → at d i ≤ 17 → YMultiplesAsked p (g .cube) (row t i) (at d i + 1)
   y-asked i h l =
-      record { f-vec = A .ready .f-vec; f-top = A .ready .f-top; v-vec = vec i h; v-top = λ n b. present i h .top n (omega arith); room = omega arith }
+      record { f-vec = A .grounded .ready .f-vec; f-top = A .grounded .ready .f-top; v-vec = vec i h; v-top = λ n b. present i h .top n (omega arith); room = omega arith }
 
   -- a lead of the class of the i-th member
   class-lead : (i n : ℕ) → n % 3 ≡ i → Lead (poles-of S) (Spanned S t) n → at d i ≤ n

@@ -21,8 +21,9 @@ use Rattle.vector.specs.Contract.{RowsOf}
 use Rattle.vector.proofs.Loop.{vec-set, zeros-at}
 use Rattle.vector.proofs.Product.{zeros-vec}
 use Rattle.vector.proofs.Element.{element-coefficient}
+use Rattle.ground.specs.Ground.{Unit-of}
 use Rattle.star.specs.Functional.{apply}
-use Rattle.star.specs.Contract.{Unit-of, Lambda, ValueAsked, Valued, OppositeOf, Given, FunctionalOf}
+use Rattle.star.specs.Contract.{Lambda, ValueAsked, Valued, OppositeOf, Given, FunctionalOf}
 use Rattle.star.proofs.Build.{Begun, begun-start, begun-next, begun-done}
 
 pub record Partial (p k : ℕ) (ys : List (List ℕ)) (d s : ℕ) (lam : List ℕ) : Type 0 where

@@ -16,8 +16,9 @@ use Rattle.curve.specs.Monomial.{mono, twist}
 use Rattle.curve.specs.Lead.{twist-one, twist-turn}
 use Rattle.vector.specs.Vector.{res, width}
 use Rattle.vector.specs.Contract.{RowsOf}
+use Rattle.ground.specs.Ground.{Unit-of}
 use Rattle.star.specs.Functional.{apply}
-use Rattle.star.specs.Contract.{Unit-of, ValueAt, OppositeOf, TermY, TermX, TermOne}
+use Rattle.star.specs.Contract.{ValueAt, OppositeOf, TermY, TermX, TermOne}
 use Rattle.star.proofs.Pairing.{value-at-none}
 
 pub opposite-one : {p k m v r : ℕ} → m < 3 → Is p r (Z p .neg (el p v)) → OppositeOf p k m v r

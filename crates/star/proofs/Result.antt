@@ -28,6 +28,7 @@ use Rattle.vector.specs.Vector.{at, res, row, element, width}
 use Rattle.vector.specs.Contract.{YMultiples}
 use Rattle.triple.specs.Setting.{poles-of}
 use Rattle.triple.specs.Triple.{Spanned}
+use Rattle.ground.specs.declared.Ground.{Ground}
 use Rattle.basis.specs.Divisor.{numbers, residues, Shaped}
 use Rattle.basis.specs.declared.Divisor.{Divisor}
 use Rattle.star.specs.Functional.{apply, candidate}
@@ -44,7 +45,13 @@ below-each [] _ h i = h
 below-each (n ∷ ns) (l, ls) h zero = l
 below-each (n ∷ ns) (l, ls) h (suc i) = below-each ns ls h i
 
-module _ {p k : ℕ} {f : List ℕ} {t : List (List ℕ)} {d : List ℕ} (A : StarAsked p k f t d) {j : ℕ} (L : LeastOf d j) where
+module _ {g : Ground} {t : List (List ℕ)} {d : List ℕ} (A : StarAsked g t d) {j : ℕ} (L : LeastOf d j) where
+  abbrev p : ℕ
+  p = g .p
+
+  abbrev k : ℕ
+  k = g .unit
+
   abbrev C : Curve (Z p)
   C = S A .curve
 
@@ -62,9 +69,9 @@ module _ {p k : ℕ} {f : List ℕ} {t : List (List ℕ)} {d : List ℕ} (A : St
   abbrev d₂ : ℕ
   d₂ = at d ((j + 2) % 3)
 
-  pub given-of : ¬ (d₂ ≡ d₀ + 8) → {ys : List (List ℕ)} → YMultiples p f (row t j) (d₀ + 1) ys → Given p k ys d₀
+  pub given-of : ¬ (d₂ ≡ d₀ + 8) → {ys : List (List ℕ)} → YMultiples p (g .cube) (row t j) (d₀ + 1) ys → Given p k ys d₀
   given-of some Y =
-      record { large = prime-large p (A .ready .setting .prime); k-below = A .unit .below; rows = Y .rows; low = least-low A L some; high = least-small A L }
+      record { large = prime-large p (A .grounded .ready .setting .prime); k-below = A .grounded .unit-is .below; rows = Y .rows; low = least-low A L some; high = least-small A L }
 
   abbrev K : Field
   K = F p (S A .prime)
@@ -112,11 +119,11 @@ module _ {p k : ℕ} {f : List ℕ} {t : List (List ℕ)} {d : List ℕ} (A : St
           go (steps-11 a b) = a
           go (steps-0 a b) = a
 
-  module _ (some : ¬ (d₂ ≡ d₀ + 8)) {lam : List ℕ} {ys us ws : List (List ℕ)} (W : FunctionalOf p k ys d₀ lam) (Y : YMultiples p f (row t j) (d₀ + 1) ys) (U : YMultiples p f (row t ((j + 1) % 3)) (d₁ + 1) us) (X : YMultiples p f (row t ((j + 2) % 3)) (d₂ + 1) ws) where
+  module _ (some : ¬ (d₂ ≡ d₀ + 8)) {lam : List ℕ} {ys us ws : List (List ℕ)} (W : FunctionalOf p k ys d₀ lam) (Y : YMultiples p (g .cube) (row t j) (d₀ + 1) ys) (U : YMultiples p (g .cube) (row t ((j + 1) % 3)) (d₁ + 1) us) (X : YMultiples p (g .cube) (row t ((j + 2) % 3)) (d₂ + 1) ws) where
     pub posed-of : Posed p k lam us ws d₀ d₁ d₂
     posed-of =
         record {
-          u-posed = record { k-below = A .unit .below; lambda = W .lambda; high = least-small A L; rows = U .rows; near = ⊎-elim (λ e. omega arith) (λ e. omega arith) (near-1 A L) };
+          u-posed = record { k-below = A .grounded .unit-is .below; lambda = W .lambda; high = least-small A L; rows = U .rows; near = ⊎-elim (λ e. omega arith) (λ e. omega arith) (near-1 A L) };
           w-posed = record { lambda = W .lambda; high = least-small A L; rows = X .rows; near = ⊎-elim (λ e. omega arith) (λ e. omega arith) (near-2 A L some); class = ⊎-elim (λ e. omega arith) (λ e. omega arith) (near-2 A L some) };
         }
 
@@ -139,7 +146,7 @@ module _ {p k : ℕ} {f : List ℕ} {t : List (List ℕ)} {d : List ℕ} (A : St
           w-below = below ((j + 2) % 3) (omega arith);
           w-monic = monic ((j + 2) % 3) (omega arith);
           degrees = degrees-of A L;
-          functional = W .is C (member j) (A .unit) (Y .value C (A .ready .cube)) (monic j (L .inside));
+          functional = W .is C (member j) (A .grounded .unit-is) (Y .value C (A .grounded .ready .cube)) (monic j (L .inside));
           room = omega (arith, least-small A L);
           near-1 = near-1 A L;
           near-2 = near-2 A L some;
@@ -150,8 +157,8 @@ module _ {p k : ℕ} {f : List ℕ} {t : List (List ℕ)} {d : List ℕ} (A : St
 
     in-star : (n : ℕ) (r : Terms) → IsPole n → n ≤ 8 → Solution n r → InStar (candidate C n (el p (r .a4)) (el p (r .a3)) (el p (r .a0)))
     in-star n r q l s =
-        candidate-member K C (S A .nonzero) width scene n (el p (r .a4)) (el p (r .a3)) (el p (r .a0)) (λ e. s .y-term .is e C (member ((j + 1) % 3)) (A .unit) (U .value C (A .ready .cube)))
-        (λ e. s .x-term .is e C (member ((j + 2) % 3)) (X .value C (A .ready .cube))) (s .one-term .is C (member ((j + 2) % 3)) (X .value C (A .ready .cube))) q l
+        candidate-member K C (S A .nonzero) width scene n (el p (r .a4)) (el p (r .a3)) (el p (r .a0)) (λ e. s .y-term .is e C (member ((j + 1) % 3)) (A .grounded .unit-is) (U .value C (A .grounded .ready .cube)))
+        (λ e. s .x-term .is e C (member ((j + 2) % 3)) (X .value C (A .grounded .ready .cube))) (s .one-term .is C (member ((j + 2) % 3)) (X .value C (A .grounded .ready .cube))) q l
 
     zero-of : {n : ℕ} → n ≡ 0 → el p n ≡ Z p .zero
     zero-of e = ap (el p) e ∙ el-zero p
@@ -180,7 +187,7 @@ module _ {p k : ℕ} {f : List ℕ} {t : List (List ℕ)} {d : List ℕ} (A : St
     no-a3 s u = zero-of (s .x-term .none u)
 
     no-a4-x : {r : Terms} → Solution 3 r → d₁ ≡ d₀ + 1 → el p (r .a4) ≡ Z p .zero
-    no-a4-x {r} s e = go (s .y-term .is e C (member ((j + 1) % 3)) (A .unit) (U .value C (A .ready .cube)))
+    no-a4-x {r} s e = go (s .y-term .is e C (member ((j + 1) % 3)) (A .grounded .unit-is) (U .value C (A .grounded .ready .cube)))
       where
         go : (c : Z p .Car) × (Z p .mul c (twist C 4 (d₀ + 1)) ≡ Z p .one) × (el p (r .a4) ≡ Z p .neg (Z p .mul c (apply C width (res p lam) ((mono C 3) ⊗ (member ((j + 1) % 3)))))) → el p (r .a4) ≡ Z p .zero
         go (c, q, i) = no-y K C width (scene .functional) (scene .room) 3 (el p (r .a4)) (el p (r .a3)) (el p (r .a0)) refl (member ((j + 1) % 3)) (subst (λ n. Below C (suc n) (member ((j + 1) % 3))) e (below ((j + 1) % 3) (omega arith))) c i

@@ -1,5 +1,4 @@
 -- What star and its parts require and ensure. Λ is the functional with the values lam, h stands for d + 5 − d2.
---   Unit-of p k C                k is the inverse of −a0
 --   StarAsked, Starred, StarOf   star: the divisor is a basis, and its ideal is the star of the span of the triple
 --   LeastOf                      least: the class of the least degree
 --   ValueAsked, Valued           value: Λ(x^(s/3)·v)
@@ -27,24 +26,20 @@ use Rattle.curve.specs.Monomial.{coefficient, mono, twist}
 use Rattle.divisor.specs.Kind.{Kind, IdealOf}
 use Rattle.vector.specs.Vector.{Vec, at, res, element, x-to, width}
 use Rattle.vector.specs.Contract.{Rows, RowsOf}
-use Rattle.triple.specs.Setting.{Setting, ring, poles-of, Ready}
+use Rattle.triple.specs.Setting.{Setting, ring, poles-of}
 use Rattle.triple.specs.Triple.{Full, Spanned}
+use Rattle.ground.specs.declared.Ground.{Ground}
+use Rattle.ground.specs.Ground.{Unit-of, Grounded}
 use Rattle.basis.specs.Divisor.{residues, Based}
 use Rattle.basis.specs.declared.Divisor.{Divisor}
 use Rattle.star.specs.Functional.{apply, Functional}
 use Rattle.star.specs.declared.Terms.{Terms}
 use Rattle.star.specs.declared.Values.{Values}
 
--- k is the inverse of −a0
-pub record Unit-of (p k : ℕ) (C : Curve (Z p)) : Type 0 where
-  pub below : k < p
-  pub inverse : Z p .mul (el p k) (Z p .neg (C .a0)) ≡ Z p .one
-
-pub record StarAsked (p k : ℕ) (f : List ℕ) (t : List (List ℕ)) (d : List ℕ) : Type 0 where
-  pub ready : Ready p f
-  pub unit : Unit-of p k (ready .setting .curve)
-  pub full : Full p t d
-  pub ideal : IsIdeal (ring (ready .setting)) (Spanned (ready .setting) t)
+pub record StarAsked (g : Ground) (t : List (List ℕ)) (d : List ℕ) : Type 0 where
+  pub grounded : Grounded g
+  pub full : Full (g .p) t d
+  pub ideal : IsIdeal (ring (grounded .ready .setting)) (Spanned (grounded .ready .setting) t)
   pub small : (j : ℕ) × (j < 3) × (at d j ≤ 12)
 
 pub record Starred (p : ℕ) (S : Setting p) (t : List (List ℕ)) (r : Divisor) : Type 0 where
@@ -52,8 +47,8 @@ pub record Starred (p : ℕ) (S : Setting p) (t : List (List ℕ)) (r : Divisor)
   pub based : Based p (S .curve) kind r
   pub star : IsStar (poles-of S) (Spanned S t) (IdealOf (S .curve) kind (residues p r))
 
-abbrev pub StarOf : (p k : ℕ) (f : List ℕ) (t : List (List ℕ)) (d : List ℕ) → Divisor → Type 0
-StarOf p k f t d r = (A : StarAsked p k f t d) → Starred p (A .ready .setting) t r
+abbrev pub StarOf : (g : Ground) (t : List (List ℕ)) (d : List ℕ) → Divisor → Type 0
+StarOf g t d r = (A : StarAsked g t d) → Starred (g .p) (A .grounded .ready .setting) t r
 
 pub record LeastOf (d : List ℕ) (j : ℕ) : Type 0 where
   pub inside : j < 3
@@ -252,7 +247,7 @@ module _ (p k : ℕ) (lam : List ℕ) (us ws : List (List ℕ)) (d d1 d2 : ℕ) 
     is-11 : ¬ (d1 ≡ d + 1) → ¬ (d2 ≡ d + 2) → Made11 r → ByKind r
 
 -- the least degree is that of the class j, and the star is not the zero class
-pub record FromAsked (p k : ℕ) (f : List ℕ) (t : List (List ℕ)) (d : List ℕ) (j : ℕ) : Type 0 where
-  pub asked : StarAsked p k f t d
+pub record FromAsked (g : Ground) (t : List (List ℕ)) (d : List ℕ) (j : ℕ) : Type 0 where
+  pub asked : StarAsked g t d
   pub least : LeastOf d j
   pub some : ¬ (at d ((j + 2) % 3) ≡ at d j + 8)

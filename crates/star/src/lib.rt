@@ -4,6 +4,7 @@
 ghost use mathlib.Core.Path.{_≡_};
 ghost use Rattle.star.specs.Contract.{StarAsked, StarOf, LeastOf, ValueAsked, Valued, AtAsked, ValueAt, OppositeAsked, OppositeOf, Given, FunctionalOf, PosedW, ValuesOf, YAsked, TermY, XAsked, TermX, OneAsked, TermOne, SolveAsked, Solved, Posed, Made11, Made21, Made22, Made31, ByKind, FromAsked};
 use basis::Divisor;
+use ground::Ground;
 
 // a4·y + a3·x + a0
 struct Terms {
@@ -344,27 +345,27 @@ fn least(d: &[usize; 3]) -> usize
 }
 
 // The star of a triple whose least degree is that of the class j, where it is not the zero class.
-fn star_from(p: u32, k: u32, f: &[u32; 26], t: &[[u32; 26]; 3], d: &[usize; 3], j: usize) -> Divisor
-    requires { ⌜ FromAsked p k (now f) (now t) (now d) j ⌝ }
-    ensures { λ r. ⌜ StarOf p k (now (f .entry)) (now (t .entry)) (now (d .entry)) r ⌝ }
+fn star_from(g: Ground, t: &[[u32; 26]; 3], d: &[usize; 3], j: usize) -> Divisor
+    requires { ⌜ FromAsked g (now t) (now d) j ⌝ }
+    ensures { λ r. ⌜ StarOf g (now (t .entry)) (now (d .entry)) r ⌝ }
 {
     let j1 = (j + 1) % 3;
     let j2 = (j + 2) % 3;
     let e = d[j];
     let e1 = d[j1];
     let e2 = d[j2];
-    let ys = vector::y_multiples(p, f, &t[j], e + 1);
-    let us = vector::y_multiples(p, f, &t[j1], e1 + 1);
-    let ws = vector::y_multiples(p, f, &t[j2], e2 + 1);
-    let lam = functional(p, k, &ys, e);
-    by_kind(p, k, &lam, &us, &ws, e, e1, e2)
+    let ys = vector::y_multiples(g.p, &g.cube, &t[j], e + 1);
+    let us = vector::y_multiples(g.p, &g.cube, &t[j1], e1 + 1);
+    let ws = vector::y_multiples(g.p, &g.cube, &t[j2], e2 + 1);
+    let lam = functional(g.p, g.unit, &ys, e);
+    by_kind(g.p, g.unit, &lam, &us, &ws, e, e1, e2)
 }
 
-// The divisor of the star of a triple's span, an ideal with an element of degree 12 or less; k is the inverse of −a0. The
-// degrees less the least one are (1, 2), (4, 2), (1, 5), (4, 5) or (4, 8) in the order of the classes from the least one's on.
-pub fn star(p: u32, k: u32, f: &[u32; 26], t: &[[u32; 26]; 3], d: &[usize; 3]) -> Divisor
-    requires { ⌜ StarAsked p k (now f) (now t) (now d) ⌝ }
-    ensures { λ r. ⌜ StarOf p k (now (f .entry)) (now (t .entry)) (now (d .entry)) r ⌝ }
+// The divisor of the star of a triple's span, an ideal with an element of degree 12 or less. The degrees less the least one
+// are (1, 2), (4, 2), (1, 5), (4, 5) or (4, 8) in the order of the classes from the least one's on.
+pub fn star(g: Ground, t: &[[u32; 26]; 3], d: &[usize; 3]) -> Divisor
+    requires { ⌜ StarAsked g (now t) (now d) ⌝ }
+    ensures { λ r. ⌜ StarOf g (now (t .entry)) (now (d .entry)) r ⌝ }
 {
     let j = least(d);
     let e = d[j];
@@ -383,5 +384,5 @@ pub fn star(p: u32, k: u32, f: &[u32; 26], t: &[[u32; 26]; 3], d: &[usize; 3]) -
             n8: 0,
         };
     }
-    star_from(p, k, f, t, d, j)
+    star_from(g, t, d, j)
 }

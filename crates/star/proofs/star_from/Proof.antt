@@ -38,12 +38,12 @@ index-1-y-multiples c = search needs
 
 add-y-multiples : tie.Need-add-y-multiples
 add-y-multiples c =
-    let a = c .before .before .before .before .pre in
+    let a = c .before .before .before .before .before .before .pre in
     omega (arith, least-small (a .asked) (a .least))
 
 y-multiples-requires : tie.Need-y-multiples-requires
 y-multiples-requires c κs =
-    let a = c .before .before .before .before .pre in
+    let a = c .before .before .before .before .before .before .pre in
     y-asked (a .asked) _ (a .least .inside) (omega (arith, least-small (a .asked) (a .least)))
 
 mul-y-multiples-2 : tie.Need-mul-y-multiples-2
@@ -54,12 +54,12 @@ index-1-y-multiples-2 c = search needs
 
 add-y-multiples-2 : tie.Need-add-y-multiples-2
 add-y-multiples-2 c =
-    let a = c .before .before .before .before .before .before .pre in
+    let a = c .before .before .before .before .before .before .before .before .before .before .pre in
     omega (arith, first-small (a .asked) (a .least))
 
 y-multiples-requires-2 : tie.Need-y-multiples-requires-2
 y-multiples-requires-2 c κs =
-    let a = c .before .before .before .before .before .before .pre in
+    let a = c .before .before .before .before .before .before .before .before .before .before .pre in
     y-asked (a .asked) _ (omega arith) (omega (arith, first-small (a .asked) (a .least)))
 
 mul-y-multiples-3 : tie.Need-mul-y-multiples-3
@@ -70,28 +70,35 @@ index-1-y-multiples-3 c = search needs
 
 add-y-multiples-3 : tie.Need-add-y-multiples-3
 add-y-multiples-3 c =
-    let a = c .before .before .before .before .before .before .before .before .pre in
+    let a = c .before .before .before .before .before .before .before .before .before .before .before .before .before .before .pre in
     omega (arith, second-small (a .asked) (a .least) (a .some))
 
 y-multiples-requires-3 : tie.Need-y-multiples-requires-3
 y-multiples-requires-3 c κs =
-    let a = c .before .before .before .before .before .before .before .before .pre in
+    let a = c .before .before .before .before .before .before .before .before .before .before .before .before .before .before .pre in
     y-asked (a .asked) _ (omega arith) (omega (arith, second-small (a .asked) (a .least) (a .some)))
 
 functional-requires : tie.Need-functional-requires
 functional-requires c κs =
-    let a = c .before .before .before .before .before .before .before .before .before .before .pre in
-    given-of (a .asked) (a .least) (a .some) (c .before .before .before .before .before .y-multiples .ensures)
+    let first = c .before .before .before .before .before .before .before .before .before in
+    let a = first .before .before .before .before .before .before .before .pre in
+    given-of (a .asked) (a .least) (a .some) (first .y-multiples .ensures)
 
 by-kind-requires : tie.Need-by-kind-requires
 by-kind-requires c κs =
-    let a = c .before .before .before .before .before .before .before .before .before .before .before .before .before .before .pre in
-    posed-of (a .asked) (a .least) (a .some) (c .before .before .before .functional .ensures) (c .before .before .before .before .before .before .before .before .before .y-multiples .ensures) (c .before .before .before .before .before .before .before .y-multiples2 .ensures) (c .before .before .before .before .before .y-multiples3 .ensures)
+    let third = c .before .before .before .before .before in
+    let second = third .before .before .before .before in
+    let first = second .before .before .before .before in
+    let a = first .before .before .before .before .before .before .before .pre in
+    posed-of (a .asked) (a .least) (a .some) (c .before .before .before .functional .ensures) (first .y-multiples .ensures) (second .y-multiples2 .ensures) (third .y-multiples3 .ensures)
 
 returns : tie.Need-returns
 returns c A =
-    let a = c .before .before .before .before .before .before .before .before .before .before .before .before .before .before .before .pre in
-    starred-by A (a .least) (a .some) (c .before .before .before .before .functional .ensures) (c .before .before .before .before .before .before .before .before .before .before .y-multiples .ensures) (c .before .before .before .before .before .before .before .before .y-multiples2 .ensures) (c .before .before .before .before .before .before .y-multiples3 .ensures) (c .by-kind .ensures)
+    let third = c .before .before .before .before .before .before in
+    let second = third .before .before .before .before in
+    let first = second .before .before .before .before in
+    let a = first .before .before .before .before .before .before .before .pre in
+    starred-by A (a .least) (a .some) (c .before .before .before .before .functional .ensures) (first .y-multiples .ensures) (second .y-multiples2 .ensures) (third .y-multiples3 .ensures) (c .by-kind .ensures)
 
 pub star-from-spec : {M : Type 1} → statement M
 star-from-spec =
