@@ -3,6 +3,7 @@
 --   CurveRead s a          read_curve: an accepted curve's equation, or the number of the first cause
 --   On c g                 c is an accepted curve, and g its ground
 --   DivisorGiven p C s r   s is accepted, and r is the divisor by value of which s is the record
+--   GivenOn c s r          … on the curve of the bytes c
 --   DivisorRead p C s a    read_divisor: an accepted divisor by value, or the number of the first cause
 --   TwoRead p C s t a      read_two: two accepted divisors by value, or the number of the first cause
 --   NextRead p C s a       read_next: the divisor at the start of s and its length, or the number of the first cause
@@ -28,7 +29,7 @@ use Rattle.record.specs.declared.TwoAnswer.the-variants as two
 use Rattle.record.specs.declared.NextAnswer.{NextAnswer}
 use Rattle.record.specs.declared.NextAnswer.the-variants as next
 use Rattle.record.specs.Cause.{FirstCause, Passes}
-use Rattle.record.specs.Curve.{modulus, coefficient-number, curve-stages, AcceptedCurve}
+use Rattle.record.specs.Curve.{modulus, coefficient-number, equation, curve-stages, AcceptedCurve}
 use Rattle.record.specs.Divisor.{divisor-stages, AcceptedDivisor}
 use Rattle.record.specs.Listed.{next-stages}
 use Rattle.record.specs.Value.{bytes-of}
@@ -75,3 +76,6 @@ module _ (p : ℕ) (C : Curve (Z p)) where
   abbrev pub NextRead : List ℕ → NextAnswer → Type 0
   NextRead s (next.Next r n) = Passes (next-stages p C s) × (n ≡ number2 s 0) × DivisorGiven (take n s) r
   NextRead s (next.Refused n) = FirstCause (next-stages p C s) n
+
+abbrev pub GivenOn : (c s : List ℕ) → Divisor → Type 0
+GivenOn c s r = DivisorGiven (modulus c) (equation c) s r

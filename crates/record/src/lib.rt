@@ -13,6 +13,12 @@ ghost use Rattle.record.specs.Divisor.{divisor-form};
 ghost use Rattle.record.specs.Contract.{Answers, Checked, Known, Counted, AllBelow, Word, ValueOf, WriteAsked, WriteAnswer, coefficient-of, equation-stages};
 ghost use Rattle.record.specs.Reading.{equation-value, CurveRead, DivisorRead, TwoRead, NextRead};
 
+// The most bytes of a list.
+pub const LIST_LIMIT: usize = 32768;
+
+// The least length of a result buffer: the longest record has 40 bytes.
+pub const ROOM: usize = 40;
+
 // An accepted curve, or the number of the first cause of refusal.
 pub enum CurveAnswer {
     Curve(Equation),

@@ -1,0 +1,7 @@
+-- Why the functions on the ground of a curve find what they find.
+pub mod Values
+pub mod Read
+pub mod Size
+pub mod Multiple
+pub mod Walk
+pub mod Lists

@@ -1,0 +1,2 @@
+-- What the functions on the ground of a curve find.
+pub mod Found
