@@ -1,0 +1,175 @@
+// The nine calls. Each reads the curve, makes its ground, has the work done on it, and returns what the call is for or minus the number of the
+// first cause of refusal.
+use classes::TallyAnswer;
+use record::CurveAnswer;
+use record::DivisorAnswer;
+use record::TwoAnswer;
+ghost use mathlib.Core.Path.{_≡_};
+ghost use Rattle.calls.specs.Answer.{minus};
+ghost use Rattle.calls.specs.Call.{CheckCurve, CheckDivisor, Sum, Double, Negative, Multiple, ListSum, Compare, Count};
+ghost use Rattle.answer.specs.Written.{Writable, Wrote};
+
+// What a call returns for the refusal n.
+pub fn refusal(n: u8) -> i32
+    ensures { λ r. ⌜ r ≡ minus n ⌝ }
+{
+    0 - (n as i32)
+}
+
+// Writes the record of a divisor that was found at the start of `out`, and returns its length; refuses a buffer that is too short, and what was
+// refused before.
+pub fn written(found: DivisorAnswer, out: &mut [u8]) -> i32
+    requires { ⌜ Writable found ⌝ }
+    ensures { λ r. ⌜ Wrote found (now (out .entry)) r (now (out .exit)) ⌝ }
+{
+    match found {
+        DivisorAnswer::Divisor(x) => {
+            if out.len() < record::ROOM {
+                return refusal(10);
+            }
+            let n = record::write_divisor(x, out);
+            n as i32
+        }
+        DivisorAnswer::Refused(n) => refusal(n),
+    }
+}
+
+// 1 for an accepted curve.
+pub fn check_curve(curve: &[u8]) -> i32
+    ensures { λ r. ⌜ CheckCurve (now (curve .entry)) r ⌝ }
+{
+    let read = record::read_curve(curve);
+    match read {
+        CurveAnswer::Curve(_) => 1,
+        CurveAnswer::Refused(n) => refusal(n),
+    }
+}
+
+// 1 for an accepted divisor on an accepted curve.
+pub fn check_divisor(curve: &[u8], divisor: &[u8]) -> i32
+    ensures { λ r. ⌜ CheckDivisor (now (curve .entry)) (now (divisor .entry)) r ⌝ }
+{
+    let read = record::read_curve(curve);
+    match read {
+        CurveAnswer::Curve(e) => {
+            let g = ground::of(e);
+            let next = record::read_divisor(g, divisor);
+            match next {
+                DivisorAnswer::Divisor(_) => 1,
+                DivisorAnswer::Refused(n) => refusal(n),
+            }
+        }
+        CurveAnswer::Refused(n) => refusal(n),
+    }
+}
+
+// The sum of two divisors.
+pub fn sum(curve: &[u8], a: &[u8], b: &[u8], out: &mut [u8]) -> i32
+    ensures { λ r. ⌜ Sum (now (curve .entry)) (now (a .entry)) (now (b .entry)) (now (out .entry)) r (now (out .exit)) ⌝ }
+{
+    let read = record::read_curve(curve);
+    match read {
+        CurveAnswer::Curve(e) => {
+            let g = ground::of(e);
+            let found = classes::sum_on(g, a, b);
+            written(found, out)
+        }
+        CurveAnswer::Refused(n) => refusal(n),
+    }
+}
+
+// The sum of a divisor with itself.
+pub fn double(curve: &[u8], a: &[u8], out: &mut [u8]) -> i32
+    ensures { λ r. ⌜ Double (now (curve .entry)) (now (a .entry)) (now (out .entry)) r (now (out .exit)) ⌝ }
+{
+    let read = record::read_curve(curve);
+    match read {
+        CurveAnswer::Curve(e) => {
+            let g = ground::of(e);
+            let found = classes::double_on(g, a);
+            written(found, out)
+        }
+        CurveAnswer::Refused(n) => refusal(n),
+    }
+}
+
+// The negative of a divisor.
+pub fn negative(curve: &[u8], a: &[u8], out: &mut [u8]) -> i32
+    ensures { λ r. ⌜ Negative (now (curve .entry)) (now (a .entry)) (now (out .entry)) r (now (out .exit)) ⌝ }
+{
+    let read = record::read_curve(curve);
+    match read {
+        CurveAnswer::Curve(e) => {
+            let g = ground::of(e);
+            let found = classes::negative_on(g, a);
+            written(found, out)
+        }
+        CurveAnswer::Refused(n) => refusal(n),
+    }
+}
+
+// The multiple of a divisor by n.
+pub fn multiple(curve: &[u8], a: &[u8], n: i64, out: &mut [u8]) -> i32
+    ensures { λ r. ⌜ Multiple (now (curve .entry)) (now (a .entry)) n (now (out .entry)) r (now (out .exit)) ⌝ }
+{
+    let read = record::read_curve(curve);
+    match read {
+        CurveAnswer::Curve(e) => {
+            let g = ground::of(e);
+            let found = classes::multiple_on(g, a, n);
+            written(found, out)
+        }
+        CurveAnswer::Refused(n) => refusal(n),
+    }
+}
+
+// The sum of all divisors of a list.
+pub fn list_sum(curve: &[u8], list: &[u8], out: &mut [u8]) -> i32
+    ensures { λ r. ⌜ ListSum (now (curve .entry)) (now (list .entry)) (now (out .entry)) r (now (out .exit)) ⌝ }
+{
+    let read = record::read_curve(curve);
+    match read {
+        CurveAnswer::Curve(e) => {
+            let g = ground::of(e);
+            let found = classes::list_sum_on(g, list);
+            written(found, out)
+        }
+        CurveAnswer::Refused(n) => refusal(n),
+    }
+}
+
+// 1 if two divisors have the same bytes, else 0.
+pub fn compare(curve: &[u8], a: &[u8], b: &[u8]) -> i32
+    ensures { λ r. ⌜ Compare (now (curve .entry)) (now (a .entry)) (now (b .entry)) r ⌝ }
+{
+    let read = record::read_curve(curve);
+    match read {
+        CurveAnswer::Curve(e) => {
+            let g = ground::of(e);
+            let next = record::read_two(g, a, b);
+            match next {
+                TwoAnswer::Two(_, _) => { if layout::same_bytes(a, b) { 1 } else { 0 } }
+                TwoAnswer::Refused(n) => refusal(n),
+            }
+        }
+        CurveAnswer::Refused(n) => refusal(n),
+    }
+}
+
+// How many divisors of a list have the kind.
+pub fn count(curve: &[u8], list: &[u8], kind: u32) -> i32
+    ensures { λ r. ⌜ Count (now (curve .entry)) (now (list .entry)) kind r ⌝ }
+{
+    let read = record::read_curve(curve);
+    match read {
+        CurveAnswer::Curve(e) => {
+            let g = ground::of(e);
+            let found = classes::count_on(g, list, kind);
+            match found {
+                TallyAnswer::Count(n) => n as i32,
+                TallyAnswer::Refused(n) => refusal(n),
+            }
+        }
+        CurveAnswer::Refused(n) => refusal(n),
+    }
+}
