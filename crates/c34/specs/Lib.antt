@@ -1,2 +1,0 @@
--- What the parts of the calls require and ensure.
-pub mod Part
