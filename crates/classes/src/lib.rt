@@ -102,7 +102,7 @@ pub fn count_on(g: Ground, list: &[u8], kind: u32) -> TallyAnswer
     requires { ⌜ Curved g ⌝ }
     ensures { λ r. ⌜ OnCurves g (λ c. TallyFound c (list-of c (now (list .entry))) (now (list .entry)) kind r) ⌝ }
 {
-    if record::LIST_LIMIT < list.len() {
+    if list.len() > record::LIST_LIMIT {
         return TallyAnswer::Refused(11);
     }
     tally(g, list, kind)

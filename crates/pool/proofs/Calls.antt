@@ -22,7 +22,7 @@ use Rattle.calls.proofs.Places.{long-enough, too-short, without-both, perm-leng
 use Rattle.calls.proofs.Exists.{two-passes}
 use Rattle.calls.proofs.Answers.{Answered, short, enough, answer, two-sound, record-fits}
 use Rattle.pool.specs.Held.{slot, at-slot, Held, Copied}
-use Rattle.pool.specs.Run.{Sized, Accepted, CallMade, left-of}
+use Rattle.pool.specs.Run.{InSlot, Accepted, CallMade, left-of}
 use Rattle.pool.proofs.Slots.{held-more, length-more}
 
 module _ (c s : List ℕ) (p : List (List ℕ)) (held : Held s p) (accepted : Accepted c p) (m : ℕ) (below : m < length p) where
@@ -36,7 +36,7 @@ module _ (c s : List ℕ) (p : List (List ℕ)) (held : Held s p) (accepted : Ac
       (held .bytes m 1 below (omega (arith, fits .0)))
       ∙ accepted m below .1 .0 .1
 
-  pub sized : Sized s m
+  pub sized : InSlot s m
   sized = record { head = omega (arith, held .fits); whole = omega (arith, held .fits, length-field, fits .1) }
 
   pub slot-is : at-slot s m ≡ entry p m

@@ -16,11 +16,11 @@ use Rattle.calls.specs.Call.{Sum, room}
 use Rattle.calls.specs.Pool.{amount}
 use Rattle.calls.proofs.Places.{long-enough, too-short}
 use Rattle.pool.specs.Held.{slot, at-slot, Held, Copied, Closed}
-use Rattle.pool.specs.Run.{Sized, Accepted, StepAsked, StepMade, CallMade}
+use Rattle.pool.specs.Run.{InSlot, Accepted, StepAsked, StepMade, CallMade}
 use Rattle.pool.proofs.Calls.{sized, Wrote, wrote, made-short, made-long}
 
 module _ (c s : List ℕ) (n i j : ℕ) (asked : StepAsked c s n i j) where
-  pub sizes : Sized s i × Sized s j
+  pub sizes : InSlot s i × InSlot s j
   sizes = (
     sized c s (asked .pool) (asked .held) (asked .accepted) i (omega (arith, asked .count, asked .i-below)),
     sized c s (asked .pool) (asked .held) (asked .accepted) j (omega (arith, asked .count, asked .j-below)),

@@ -21,7 +21,7 @@ use Rattle.calls.proofs.Step.{Good}
 use Rattle.calls.proofs.Pairs.{parts-bytes, start, run, adding-by-pairs}
 use Rattle.layout.specs.Layout.{Bytes}
 use Rattle.pool.specs.Held.{Held}
-use Rattle.pool.specs.Run.{Accepted, StepAsked, CallMade, StepMade, left-of, Valid, Given, RunAsked, numbers-of, Ran, RunMade}
+use Rattle.pool.specs.Run.{Accepted, StepAsked, CallMade, StepMade, left-of, Valid, Holding, RunAsked, numbers-of, Ran, RunMade}
 
 module _ (k : PoolCall) where
   pub pool-of-more : (ks : List PoolCall) (p : List (List ℕ)) → pool-of (ks ++ k ∷ []) p ≡ pool-after k (pool-of ks p)
@@ -36,7 +36,7 @@ module _ (k : PoolCall) where
   numbers-of-more [] = refl
   numbers-of-more (h ∷ ks) = ap (λ (t : List ℕ). h .i ∷ h .j ∷ length (h .before) ∷ t) (numbers-of-more ks)
 
-pub accepted-after : (c : List ℕ) (A : AcceptedCurve c) (s : List ℕ) (n : ℕ) (t : List ℕ) (rs : List (List ℕ)) → Given c s n t rs
+pub accepted-after : (c : List ℕ) (A : AcceptedCurve c) (s : List ℕ) (n : ℕ) (t : List ℕ) (rs : List (List ℕ)) → Holding c s n t rs
     → (ks : List PoolCall) → Made c rs ks → Accepted c (pool-of ks rs)
 accepted-after c A s n t rs g ks made m l =
     together-entry (Good c rs) (groups-of ks (alone (length rs))) (pool-of ks rs)
@@ -97,7 +97,7 @@ ran-more c rs cs s r i j out s′ r′ h m = record {
 pub record Going (c s₀ : List ℕ) (n : ℕ) (cs : List ℕ) (l : ℕ) (s : List ℕ) (left at : ℕ) : Type 0 where
   pub within : at ≤ length cs
   pub valid : Valid left l (drop at cs)
-  pub ran : (t : List ℕ) (rs : List (List ℕ)) → Given c s₀ n t rs → Ran c rs (take at cs) s left
+  pub ran : (t : List ℕ) (rs : List (List ℕ)) → Holding c s₀ n t rs → Ran c rs (take at cs) s left
 
 module _ (c s₀ : List ℕ) (n : ℕ) (cs : List ℕ) (l : ℕ) (asked : RunAsked c s₀ n cs l) where
   pub going-none : Going c s₀ n cs l s₀ n 0
@@ -151,7 +151,7 @@ module _ (c s₀ : List ℕ) (n : ℕ) (cs : List ℕ) (l : ℕ) (asked : RunAsk
       ran = ran;
     }
       where
-        ran : (t : List ℕ) (rs : List (List ℕ)) → Given c s₀ n t rs → Ran c rs (take (at + 3) cs) s′ r
+        ran : (t : List ℕ) (rs : List (List ℕ)) → Holding c s₀ n t rs → Ran c rs (take (at + 3) cs) s′ r
         ran t rs g =
             let b : Ran c rs (take at cs) s left = h .ran t rs g in
             subst (λ (ds : List ℕ). Ran c rs ds s′ r)

@@ -1,5 +1,5 @@
 -- One sum call and a list of them on a pool in lent memory.
---   Sized s m              slot m has a length field, and the bytes that it gives
+--   InSlot s m             slot m has a length field, and the bytes that it gives
 --   Accepted c p           the records p are accepted on the curve c
 --   StepAsked c s n i j    s holds n accepted records, and i and j are two places of them
 --   CallMade c p i j out s′ r   a sum call of the records i and j of p with the buffer out is made, and s′ holds the r records that it leaves
@@ -7,7 +7,7 @@
 --   left-of n b            how many of n records are left by a call with a buffer of b bytes
 --   Valid n l cs           cs are calls on n records, three numbers each: two different places of the pool as it then is, and the length of a
 --                          buffer, at most l
---   Given c s n t rs       s holds the n records rs of the accepted list t
+--   Holding c s n t rs       s holds the n records rs of the accepted list t
 --   RunAsked c s n cs l    … of some list, and cs are calls on them
 --   numbers-of ks          the three numbers of each call
 --   Ran c rs cs s′ r       the calls cs are made on rs, and s′ holds the r records that they leave
@@ -25,7 +25,7 @@ use Rattle.calls.specs.Call.{room}
 use Rattle.calls.specs.Pool.{PoolCall, entry, pick, pool-after, pool-of, IsCall, Made, PoolEnd}
 use Rattle.pool.specs.Held.{slot, Held}
 
-pub record Sized (s : List ℕ) (m : ℕ) : Type 0 where
+pub record InSlot (s : List ℕ) (m : ℕ) : Type 0 where
   pub head : slot m + 2 ≤ length s
   pub whole : slot m + number2 s (slot m) ≤ length s
 
@@ -64,7 +64,7 @@ Valid n l (i ∷ []) = ⊥
 Valid n l (i ∷ j ∷ []) = ⊥
 Valid n l (i ∷ j ∷ b ∷ cs) = (i < n) × (j < n) × (¬ (i ≡ j)) × (b ≤ l) × Valid (left-of n b) l cs
 
-pub record Given (c s : List ℕ) (n : ℕ) (t : List ℕ) (rs : List (List ℕ)) : Type 0 where
+pub record Holding (c s : List ℕ) (n : ℕ) (t : List ℕ) (rs : List (List ℕ)) : Type 0 where
   pub bytes : Bytes t
   pub few : length t ≤ list-limit
   pub listed : Listed (modulus c) (equation c) t rs
@@ -75,7 +75,7 @@ pub record RunAsked (c s : List ℕ) (n : ℕ) (cs : List ℕ) (l : ℕ) : Type 
   pub curve : AcceptedCurve c
   pub list : List ℕ
   pub records : List (List ℕ)
-  pub given : Given c s n list records
+  pub given : Holding c s n list records
   pub valid : Valid n l cs
 
 abbrev pub numbers-of : List PoolCall → List ℕ
@@ -92,4 +92,4 @@ pub record Ran (c : List ℕ) (rs : List (List ℕ)) (cs s′ : List ℕ) (r : �
 -- Left open: after the calls the bytes of a slot behind its record, and the slots from the count r on, may hold anything. The length of the
 -- memory stays, as that of every lent slice does.
 abbrev pub RunMade : (c s : List ℕ) (n : ℕ) (cs s′ : List ℕ) (r : ℕ) → Type 0
-RunMade c s n cs s′ r = (t : List ℕ) (rs : List (List ℕ)) → Given c s n t rs → (h : Ran c rs cs s′ r) × PoolEnd c rs (h .calls)
+RunMade c s n cs s′ r = (t : List ℕ) (rs : List (List ℕ)) → Holding c s n t rs → (h : Ran c rs cs s′ r) × PoolEnd c rs (h .calls)

@@ -4,7 +4,10 @@ ghost use Prim.Native.Nat.{_+_, _*_, _≤_, _<_};
 ghost use lib.ListN.{length};
 ghost use Rattle.calls.specs.Call.{Sum};
 ghost use Rattle.pool.specs.Held.{at-slot, Copied, Passed, Closed};
-ghost use Rattle.pool.specs.Run.{Sized, StepAsked, StepMade, RunAsked, RunMade};
+ghost use Rattle.pool.specs.Run.{InSlot, StepAsked, StepMade, RunAsked, RunMade};
+
+// The length of a slot: the longest record fits.
+const SLOT: usize = 40;
 
 // Copies n bytes from place `from` to place `at` before it.
 fn copy_back(s: &mut [u8], at: usize, from: usize, n: usize)
@@ -44,7 +47,7 @@ fn pass_slot(s: &mut [u8], w: usize, m: usize, i: usize, j: usize) -> usize
     if m == j {
         return w;
     }
-    copy_back(s, 40 * w, 40 * m, 40);
+    copy_back(s, SLOT * w, SLOT * m, SLOT);
     w + 1
 }
 
@@ -63,14 +66,14 @@ fn close_up(s: &mut [u8], n: usize, i: usize, j: usize)
 
 // The sum call of the records at the slots i and j.
 fn sum_slots(curve: &[u8], s: &[u8], i: usize, j: usize, out: &mut [u8]) -> i32
-    requires { ⌜ Sized (now s) i × Sized (now s) j ⌝ }
+    requires { ⌜ InSlot (now s) i × InSlot (now s) j ⌝ }
     ensures { λ r. ⌜ Sum (now (curve .entry)) (at-slot (now (s .entry)) i) (at-slot (now (s .entry)) j) (now (out .entry)) r (now (out .exit)) ⌝ }
 {
-    let a = 40 * i;
-    let b = 40 * j;
+    let a = SLOT * i;
+    let b = SLOT * j;
     let n = layout::read_u16(s, a) as usize;
     let m = layout::read_u16(s, b) as usize;
-    c34::c34_sum(curve, &s[a..a + n], &s[b..b + m], out)
+    answer::sum(curve, &s[a..a + n], &s[b..b + m], out)
 }
 
 // One sum call on the n records of the pool. The result is how many records are left.
@@ -79,11 +82,11 @@ fn step(curve: &[u8], s: &mut [u8], n: usize, i: usize, j: usize, out: &mut [u8]
     ensures { λ r. ⌜ StepMade (now (curve .entry)) (now (s .entry)) n i j (now (out .entry)) (now (s .exit)) r ⌝ }
 {
     let r = sum_slots(curve, &s[..], i, j, out);
-    if out.len() < 40 {
+    if out.len() < record::ROOM {
         return n;
     }
     close_up(s, n, i, j);
-    copy_in(s, 40 * (n - 2), &out[..], r as usize);
+    copy_in(s, SLOT * (n - 2), &out[..], r as usize);
     n - 1
 }
 

@@ -32,7 +32,7 @@ use Rattle.worked.specs.Table.{E}
 use Rattle.worked.proofs.Tests.{both-left, both-right, bytes-sound}
 use Rattle.worked.proofs.Worked.{worked}
 use Rattle.pool.specs.Held.{slot, Held}
-use Rattle.pool.specs.Run.{Valid, Given, RunAsked, RunMade}
+use Rattle.pool.specs.Run.{Valid, Holding, RunAsked, RunMade}
 use Rattle.pool_test.specs.Start.{records, slots, start}
 
 -- the record at place m is 40 bytes at most, and its bytes stand at slot m
@@ -64,7 +64,7 @@ all-accepted : AllAccepted (modulus E) (equation E) records
 all-accepted =
     (worked .0 .0 .1 .1, (worked .1 .0 .0 .1 .1, (worked .1 .1 .0 .0 .1 .1, (worked .1 .1 .1 .1 .0 .0 .1 .1, (zero-accepted E .1, tt)))))
 
-given : Given E start 5 (joined records) records
+given : Holding E start 5 (joined records) records
 unfolding start bytes2 bytes4 all-bytes4 record-bytes
 given =
     record {
@@ -76,8 +76,8 @@ given =
     }
 
 module _ (c s : List ℕ) (is-E : c ≡ E) (is-start : s ≡ start) where
-  given-here : Given c s 5 (joined records) records
-  given-here = subst (λ d. Given d s 5 (joined records) records) (sym is-E) (subst (λ t. Given E t 5 (joined records) records) (sym is-start) given)
+  given-here : Holding c s 5 (joined records) records
+  given-here = subst (λ d. Holding d s 5 (joined records) records) (sym is-E) (subst (λ t. Holding E t 5 (joined records) records) (sym is-start) given)
 
   pub asked : (cs : List ℕ) → Valid 5 64 cs → RunAsked c s 5 cs 64
   asked cs v = record { curve = subst AcceptedCurve (sym is-E) on-E; list = joined records; records = records; given = given-here; valid = v }

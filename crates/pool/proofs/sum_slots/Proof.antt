@@ -24,32 +24,32 @@ read-u16-requires-2 c κs = search needs
 cast-m : tie.Need-cast-m
 cast-m c = search needs
 
-add-c34-sum : tie.Need-add-c34-sum
-add-c34-sum c = search needs
+add-sum : tie.Need-add-sum
+add-sum c = search needs
 
-sub-c34-sum : tie.Need-sub-c34-sum
-sub-c34-sum c = search needs
+sub-sum : tie.Need-sub-sum
+sub-sum c = search needs
 
-part-c34-sum-start : tie.Need-part-c34-sum-start
-part-c34-sum-start c = search needs
+part-sum-start : tie.Need-part-sum-start
+part-sum-start c = search needs
 
-part-c34-sum-end : tie.Need-part-c34-sum-end
-part-c34-sum-end c = search needs
+part-sum-end : tie.Need-part-sum-end
+part-sum-end c = search needs
 
-add-c34-sum-2 : tie.Need-add-c34-sum-2
-add-c34-sum-2 c = search needs
+add-sum-2 : tie.Need-add-sum-2
+add-sum-2 c = search needs
 
-sub-c34-sum-2 : tie.Need-sub-c34-sum-2
-sub-c34-sum-2 c = search needs
+sub-sum-2 : tie.Need-sub-sum-2
+sub-sum-2 c = search needs
 
-part-c34-sum-start-2 : tie.Need-part-c34-sum-start-2
-part-c34-sum-start-2 c = search needs
+part-sum-start-2 : tie.Need-part-sum-start-2
+part-sum-start-2 c = search needs
 
-part-c34-sum-end-2 : tie.Need-part-c34-sum-end-2
-part-c34-sum-end-2 c = search needs
+part-sum-end-2 : tie.Need-part-sum-end-2
+part-sum-end-2 c = search needs
 
-c34-sum-requires : tie.Need-c34-sum-requires
-c34-sum-requires c κs = search needs
+sum-requires : tie.Need-sum-requires
+sum-requires c κs = search needs
 
 same-length : tie.Need-same-length
 same-length c = search needs
@@ -57,7 +57,7 @@ same-length c = search needs
 returns : tie.Need-returns
 returns c =
     let a = c .before .before .before .before .before .before .before .before .before .before .before .args in
-    let k = c .before .before .c34-sum in
+    let k = c .before .before .sum in
     sum-slots (a .curve .now) (a .s .now) (a .i) (a .j) (c .before .before .before .before .before .before .before .read-u16 .result)
     (c .before .before .before .before .before .before .read-u162 .result) (a .out .now) (k .result) _ (k .last .1 .1 .1 .0)
     (c .before .before .before .before .before .before .before .read-u16 .ensures .is)
@@ -75,14 +75,14 @@ sum-slots-spec =
     cast-n
     read-u16-requires-2
     cast-m
-    add-c34-sum
-    sub-c34-sum
-    part-c34-sum-start
-    part-c34-sum-end
-    add-c34-sum-2
-    sub-c34-sum-2
-    part-c34-sum-start-2
-    part-c34-sum-end-2
-    c34-sum-requires
+    add-sum
+    sub-sum
+    part-sum-start
+    part-sum-end
+    add-sum-2
+    sub-sum-2
+    part-sum-start-2
+    part-sum-end-2
+    sum-requires
     same-length
     returns)
