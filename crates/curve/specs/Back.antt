@@ -1,7 +1,6 @@
 -- Sequences moved to higher places, and products with a polynomial whose coefficients are listed.
 --   back A d f n       f at the place n − d; 0 where n is below d
 --   back-low back-high its values below d and from d on
---   back-shift         the distance and the place may rise together
 --   weigh A cs f       c₀·f + c₁·(f moved by 1) + c₂·(f moved by 2) + …
 --   weigh-vanish       the sum is 0 if f is 0 at every place that it reads
 --   coef-ascending     the coefficients of (ascending cs)·f are those of weigh cs
@@ -48,11 +47,6 @@ module _ (A : CommRing) where
   pub back-high : (d : ℕ) (f : ℕ → Car) (n : ℕ) → back d f (d + n) ≡ f n
   back-high zero f n = back-none f (0 + n) ∙ ap f (N.zero-add n)
   back-high (suc d) f n = ap (back (suc d) f) (N.suc-add d n) ∙ back-next d f (d + n) ∙ back-high d f n
-
-  pub back-shift : (e d : ℕ) (f : ℕ → Car) (n : ℕ) → back (e + d) f (e + n) ≡ back d f n
-  back-shift zero d f n = ap₂ (λ a b. back a f b) (N.zero-add d) (N.zero-add n)
-  back-shift (suc e) d f n =
-      ap₂ (λ a b. back a f b) (N.suc-add e d) (N.suc-add e n) ∙ back-next (e + d) f (e + n) ∙ back-shift e d f n
 
   -- moving by 1 first
   pub back-back : (d : ℕ) (f : ℕ → Car) (n : ℕ) → back d (back 1 f) n ≡ back (suc d) f n

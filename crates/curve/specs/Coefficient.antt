@@ -1,6 +1,5 @@
 -- The coefficients of sums and products in the coordinate ring.
 --   at-zero at-add at-neg at-one-j       of the ring's operations
---   at-above           there is none at y³ and higher powers of y
 --   at-ext             elements with the same coefficients are equal
 --   at-constant-mul    of a constant times g
 --   at-x-first at-x-next                 of x·g
@@ -27,10 +26,6 @@ module _ {k : CommRing} (C : Curve k) where
   infix 80 ⊖_ -ₖ_
   abbrev k[x] : CommRing
   k[x] = Poly k
-
-  pub at-above : (i j : ℕ) (g : El) → at C i (suc (suc (suc j))) g ≡ 𝟘
-  unfolding Coordinate part at
-  at-above i j g = ap (λ f. coef k f i) (M.component-above k[x] (t0 C) (t1 C) (t2 C) j g) ∙ P.coef-zero k i
 
   pub at-zero : (i j : ℕ) → at C i j 𝟎 ≡ 𝟘
   unfolding Coordinate part at

@@ -1,9 +1,9 @@
 -- The components of sums and products in A[y] modulo a monic cubic y³ + t2·y² + t1·y + t0.
---   component-zero component-add component-neg component-one     of the ring's operations
+--   component-zero component-add component-neg                   of the ring's operations
 --   component-triple-j component-embed-j                         of elements given by components
 --   component-scale       of an element of A times g: component j (a·g) = a·(component j g)
 --   component-y-j         of y·g: −t0·g2, g0 − t1·g2, g1 − t2·g2
---   embed-zero embed-one embed-add embed-neg embed-mul embed-inj embedding     A is a subring
+--   embed-zero embed-one embed-add embed-neg embed-mul                 A is a subring
 --   y-cubed               y³ = −(t2·y² + t1·y + t0)
 --   spread                g = g0 + g1·y + g2·y²
 use mathlib.Core.Path.{_≡_, refl, sym, _∙_, ap}
@@ -12,7 +12,6 @@ use Rattle.algebra.specs.Ring.{CommRing, ops}
 use Rattle.algebra.proofs.Norm.{E-ops, nil, unit}
 use Rattle.algebra.proofs.Solve.{solve, _⊞_, _⊠_, ⊟_}
 use Rattle.algebra.proofs.Laws as L
-use Rattle.polynomial.specs.RingMap.{RingMap}
 use Rattle.curve.specs.CubicLaws.{normal-form, product}
 use Rattle.curve.specs.Cubic.{Cubic, triple, component, embed, y, normal-path}
 
@@ -56,10 +55,6 @@ module _ (A : CommRing) (t0 t1 t2 : A .Car) where
   component-zero (suc zero) = refl
   component-zero (suc (suc zero)) = refl
   component-zero (suc (suc (suc j))) = refl
-
-  pub component-above : (j : ℕ) (g : El) → part (suc (suc (suc j))) g ≡ 𝟘
-  unfolding Cubic component
-  component-above j g = refl
 
   pub component-add : (j : ℕ) (g h : El) → part j (g ⊕ h) ≡ part j g +ₐ part j h
   unfolding Cubic component
@@ -126,9 +121,6 @@ module _ (A : CommRing) (t0 t1 t2 : A .Car) where
   unfolding Cubic component triple y
   component-y-2 g = by-y-2 A t0 t1 t2 (g .r0) (g .r1) (g .r2)
 
-  pub embed-inj : (a b : Car) → emb a ≡ emb b → a ≡ b
-  embed-inj a b e = sym (component-embed-0 a) ∙ ap (part 0) e ∙ component-embed-0 b
-
   pub embed-zero : emb 𝟘 ≡ 𝟎
   unfolding Cubic triple embed
   embed-zero = refl
@@ -144,9 +136,6 @@ module _ (A : CommRing) (t0 t1 t2 : A .Car) where
   pub embed-mul : (a b : Car) → emb (a ·ₐ b) ≡ emb a ⊗ emb b
   embed-mul a b =
       normal-path A t0 t1 t2 (simp (component-scale, component-embed-0)) (simp (component-scale, component-embed-1, L.mul-zero)) (simp (component-scale, component-embed-2, L.mul-zero))
-
-  pub embedding : RingMap A (Cubic A t0 t1 t2)
-  embedding = record { map = emb; map-zero = embed-zero; map-one = embed-one; map-add = embed-add; map-mul = embed-mul }
 
   triple-y : 𝕪 ≡ triple A t0 t1 t2 𝟘 𝟙 𝟘
   unfolding y

@@ -6,7 +6,7 @@
 --   pole-x, pole-y     x-power and y-power are the exponents
 --   Located n, locate  n is the pole number of a normal monomial or a gap
 --   gap-dec            it is decidable which
---   pole-is-pole, is-pole-pole     the pole numbers of normal monomials are the numbers that are no gaps
+--   pole-is-pole       the pole numbers of normal monomials are no gaps
 use mathlib.Core.Path.{_≡_, refl, subst}
 use mathlib.Core.List.{List, [], _∷_}
 use mathlib.Core.Logic.{inl, inr}
@@ -85,13 +85,6 @@ pole-is-pole i (suc (suc zero)) h (inl e) = omega arith
 pole-is-pole i (suc (suc zero)) h (inr (inl e)) = omega arith
 pole-is-pole i (suc (suc zero)) h (inr (inr e)) = omega arith
 pole-is-pole i (suc (suc (suc j))) h g = absurd (omega arith)
-
-pub is-pole-pole : (n : ℕ) → IsPole n → (i j : ℕ) × (j ≤ 2) × (n ≡ pole i j)
-is-pole-pole n p = go (locate n)
-  where
-    go : Located n → (i j : ℕ) × (j ≤ 2) × (n ≡ pole i j)
-    go (place i j h e) = (i, j, h, e)
-    go (gap g) = absurd (p g)
 
 pub gap-dec : (n : ℕ) → Dec (IsGap n)
 gap-dec n = go (locate n)

@@ -5,7 +5,6 @@
 --   below-mono, coefficient-mono       mono n has no monomial above n, and the coefficient 1 there
 --   split              g less its term at the top
 --   product-below, product-top         the product, as above
---   mono-mul           mono m·mono n = twist m n·mono (m + n) and lower terms
 use mathlib.Core.Path.{_≡_, refl, sym, _∙_, ap, ap₂, subst, subst₂}
 use Prim.Native.Nat.{ℕ, zero, suc, _+_, _*_, _≤_}
 use native.Mathlib.Omega.{arith}
@@ -150,10 +149,3 @@ module _ {k : CommRing} (C : Curve k) where
 
   pub product-top : {m n : ℕ} {g h : El} → Below C (suc m) g → Below C (suc n) h → coefficient C (m + n) (g ⊗ h) ≡ twist C m n ·ₖ (coefficient C m g ·ₖ coefficient C n h)
   product-top {m} {n} {g} {h} a b = product-lead m g a n h b .1
-
-  pub mono-mul : (m n : ℕ) → IsPole m → IsPole n → Below C (m + n) (mono C m ⊗ mono C n ⊕ ⊖ (constant C (twist C m n) ⊗ mono C (m + n)))
-  mono-mul m n p q =
-      let a : Below C (suc m) (mono C m) = below-mono m p in
-      let b : Below C (suc n) (mono C n) = below-mono n q in
-      let e : coefficient C (m + n) (mono C m ⊗ mono C n) ≡ twist C m n = product-top a b ∙ ap (λ u. twist C m n ·ₖ u) (ap₂ _·ₖ_ (coefficient-mono m p) (coefficient-mono n q) ∙ k .mul-one 𝟙) ∙ k .mul-one _ in
-      subst (λ (c : Car). Below C (m + n) (mono C m ⊗ mono C n ⊕ ⊖ (constant C c ⊗ mono C (m + n)))) e (split (product-below a b))

@@ -4,13 +4,12 @@
 --   coefficient-ext    elements with the same coefficients are equal
 --   coefficient-zero coefficient-add coefficient-neg coefficient-constant-mul     it is linear
 --   coefficient-vector the coefficients of vector f are f
---   coefficient-x      x moves coefficients by 3; coefficient-x-low and coefficient-x-high are its two cases
+--   coefficient-x-low, coefficient-x-high     x moves coefficients by 3
 use mathlib.Core.Path.{_≡_, refl, sym, _∙_, ap, ap₂}
 use mathlib.Core.Bool.{Bool, true, false}
 use mathlib.Core.Logic.{inl, inr}
-use Prim.Native.Nat.{ℕ, zero, suc, _+_, _*_, _-_, _≤_, _<_}
+use Prim.Native.Nat.{ℕ, zero, suc, _+_, _*_, _≤_, _<_}
 use native.Mathlib.Omega.{arith}
-use native.Mathlib.Decide.{decLe}
 use lib.Dec.{T, leb, le→leb, leb→le}
 use Rattle.algebra.specs.Ring.{CommRing}
 use Rattle.algebra.proofs.Laws as L
@@ -19,7 +18,6 @@ use Rattle.polynomial.proofs.Coef as P
 use Rattle.ideal.specs.Poles.{IsGap, IsPole}
 use Rattle.curve.specs.Component as M
 use Rattle.curve.specs.Curve.{Curve, t0, t1, t2, Coordinate, x, constant, part, at}
-use Rattle.curve.specs.Back.{back, back-low, back-high}
 use Rattle.curve.specs.Coefficient.{at-ext, at-zero, at-add, at-neg, at-constant-mul, at-x-first, at-x-next}
 use Rattle.curve.specs.Pole.{pole, x-power, y-power, pole-x, pole-y, Located, place, gap, locate}
 use Rattle.curve.specs.Monomial.{coefficient, pick, vector}
@@ -130,15 +128,3 @@ module _ {k : CommRing} (C : Curve k) where
       go (gap (inr (inl d))) = up 5 (omega arith) (coefficient-gap 5 (inr (inr refl)) (x C ⊗ g)) (inr (inl d))
       go (gap (inr (inr d))) =
           up (pole 0 2) (omega arith) (coefficient-pole 0 2 (omega arith) (x C ⊗ g) ∙ at-x-first C 2 g) (inr (inr d))
-
-  pub coefficient-x : (n : ℕ) (g : El) → coefficient C n (x C ⊗ g) ≡ back k 3 (λ m. coefficient C m g) n
-  coefficient-x n g = go (decLe 3 n)
-    where
-      go : Dec (3 ≤ n) → coefficient C n (x C ⊗ g) ≡ back k 3 (λ m. coefficient C m g) n
-      go (yes h) =
-          let e : n ≡ 3 + (n - 3) = omega arith in
-          ap (λ m. coefficient C m (x C ⊗ g)) e
-          ∙ coefficient-x-high (n - 3) g
-          ∙ sym (back-high k 3 (λ m. coefficient C m g) (n - 3))
-          ∙ ap (back k 3 (λ m. coefficient C m g)) (sym e)
-      go (no h) = coefficient-x-low n (omega arith) g ∙ sym (back-low k 3 (λ m. coefficient C m g) n (omega arith))

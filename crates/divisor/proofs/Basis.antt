@@ -11,7 +11,6 @@
 --   basis-lead, lead-basis its leads are the numbers that the kind reaches
 --   basis-footprint        it is a based ideal with all leads from 6 on
 --   basis-based            … and so a based ideal with a nonzero element
---   basis-reduced          … and its own reduced ideal
 use mathlib.Core.Path.{_≡_, sym, _∙_, ap, subst}
 use Prim.Native.Nat.{ℕ, _≤_}
 use native.Mathlib.Omega.{arith}
@@ -21,13 +20,12 @@ use Rattle.algebra.proofs.Laws as L
 use Rattle.algebra.proofs.Solve.{solve, _⊞_, ⊟_}
 use Rattle.ideal.specs.Ideal.{IsIdeal, SameIdeal}
 use Rattle.ideal.specs.Poles.{IsGap, Poles}
-use Rattle.ideal.specs.Reduced.{IsReduced}
 use Rattle.ideal.proofs.Gaps.{gap-dec}
 use Rattle.ideal.proofs.Every.{Every}
 use Rattle.ideal.proofs.Leads.{Lead, ideal-space, space-neg}
 use Rattle.ideal.proofs.Generated.{generated-ideal, generated-in, generated-each}
 use Rattle.ideal.proofs.Span.{span-each, span-ideal}
-use Rattle.ideal.proofs.Reduced.{SmallFootprint, footprint-same, reduced-self}
+use Rattle.ideal.proofs.Reduced.{SmallFootprint, footprint-same}
 use Rattle.ideal.proofs.Finite.{BasedIdeal, footprint-based}
 use Rattle.curve.specs.Curve.{Curve, Coordinate, y}
 use Rattle.curve.specs.Monomial.{coefficient, mono}
@@ -149,6 +147,3 @@ module _ (K : Field) (C : Curve (K .ring)) (nonzero : ¬ (C .a0 ≡ K .ring .zer
 
     pub basis-based : BasedIdeal P (IdealOf C κ n)
     basis-based = footprint-based P basis-footprint
-
-    pub basis-reduced : IsReduced P (IdealOf C κ n) (IdealOf C κ n)
-    basis-reduced = reduced-self P basis-footprint

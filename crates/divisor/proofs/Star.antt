@@ -3,7 +3,7 @@
 --   colon-recognised       a record whose polynomials lie in (f : J) is a basis, and its ideal is (f : J), if J matches the kind at f's pole number
 --   star-recognised        … so it is J* for the least element f of J
 use mathlib.Core.Path.{_≡_, refl, sym, subst}
-use mathlib.Core.Bool.{Bool, true, false}
+use mathlib.Core.Bool.{Bool, true, false, not}
 use mathlib.Core.List.{List, [], _∷_}
 use Prim.Native.Nat.{ℕ, _+_}
 use lib.Dec.{T, eqb, eqb→eq}
@@ -19,9 +19,10 @@ use Rattle.ideal.proofs.Recognise.{recognise}
 use Rattle.curve.specs.Curve.{Curve, Coordinate, y}
 use Rattle.curve.specs.Poles.{poles}
 use Rattle.divisor.specs.Kind.{Kind, polynomials, IdealOf, IsBasis}
-use Rattle.divisor.proofs.Terms.{absent, both, unlike}
+use Rattle.divisor.proofs.Terms.{absent}
+use Rattle.algebra.proofs.Test.{both}
 use Rattle.divisor.proofs.Table.{Reached, remaining-poles, absent-reached}
-use Rattle.divisor.proofs.Members.{member, members, Spanned, spanned-space, spanned-based, reached-lead, spanned-in, spanned-each}
+use Rattle.divisor.proofs.Members.{member, Spanned, spanned-space, spanned-based, reached-lead, spanned-in, spanned-each}
 use Rattle.divisor.proofs.Basis.{Closed, closed-same, closed-basis}
 
 -- a pole number that the kind does not reach is one of the remaining
@@ -32,7 +33,7 @@ remaining-find κ Q qs m p h = go (remaining-poles κ) qs (λ t. h (absent-reach
     go [] _ u = absurd (u tt)
     go (q ∷ ps) (a, bs) u = at (eqb m q) refl (go ps bs) u
       where
-        at : (b : Bool) → eqb m q ≡ b → (¬ T (absent m ps) → Q m) → ¬ T (both (unlike b) (absent m ps)) → Q m
+        at : (b : Bool) → eqb m q ≡ b → (¬ T (absent m ps) → Q m) → ¬ T (both (not b) (absent m ps)) → Q m
         at true e f v = subst Q (sym (eqb→eq m q (subst T (sym e) tt))) a
         at false e f v = f v
 

@@ -7,14 +7,13 @@
 --   middle-bound state-bound  t0 and t1 are at most p
 --   end-zero                  0 is the inverse of 0
 --   end-first end-second      −t0 is the inverse of a if r0 = 1, and t1 is if r1 = 1
-use mathlib.Core.Path.{_≡_, refl, sym, _∙_, ap}
+use mathlib.Core.Path.{_≡_, sym, _∙_, ap}
 use Prim.Native.Nat.{ℕ, zero, suc, _+_, _*_, _-_, _/_, _%_, _≤_, _<_}
 use native.Mathlib.Nat.{div-add-mod', mod-lt, add-comm, mul-comm, mul-le-mul-right, mul-mod-right, add-mul-mod-self-right}
 use native.Mathlib.Omega.{arith}
-use Rattle.algebra.specs.Ring.{CommRing}
 use Rattle.prime.specs.Prime.{Prime}
 use Rattle.field.specs.Residue.{Z, el}
-use Rattle.field.specs.Element.{el-add, el-mul, el-zero, el-one, el-neg, el-pos, el-same, el-rest}
+use Rattle.field.specs.Element.{el-mul, el-zero, el-one, el-neg, el-pos, el-same, el-rest}
 use Rattle.field.specs.Inverse.{inverse, inverse-zero}
 use Rattle.field.specs.Field.{prime-large, prime-rest, inverse-unique}
 use Rattle.field.specs.Contract.{Is}

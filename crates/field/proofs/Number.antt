@@ -1,13 +1,11 @@
 -- The results as numbers: what a caller that thinks in remainders reads off a contract.
---   is-number                       r = n % p if r stands for el n
 --   sum-number difference-number negative-number product-number product-sum-number product-difference-number
 --   inverse-number                  r = n if a·n % p = 1
 --   inverse-zero-number             r = 0 if a = 0
-use mathlib.Core.Path.{_≡_, refl, sym, _∙_, ap}
+use mathlib.Core.Path.{_≡_, sym, _∙_, ap}
 use Prim.Native.Nat.{ℕ, _+_, _*_, _-_, _%_, _≤_, _<_}
 use native.Mathlib.Nat.{mod-lt, mod-eq-of-lt, zero-mod}
 use native.Mathlib.Omega.{arith}
-use Rattle.algebra.specs.Ring.{CommRing}
 use Rattle.prime.specs.Prime.{Prime}
 use Rattle.field.specs.Residue.{Z, el}
 use Rattle.field.specs.Element.{el-add, el-mul, el-zero, el-one, el-neg, el-pos, el-same, el-inj, el-mod}
@@ -19,9 +17,6 @@ use Rattle.field.proofs.Products.{negated}
 -- r is the remainder of every number that has its residue
 stands : (p r n : ℕ) (x : Z p .Car) → Is p r x → el p n ≡ x → r ≡ n % p
 stands p r n x i e = el-inj p r (n % p) (i .below) (mod-lt n (omega (arith, i .below))) (i .is ∙ sym e ∙ sym (el-mod p n))
-
-pub is-number : (p r n : ℕ) → Is p r (el p n) → r ≡ n % p
-is-number p r n i = stands p r n _ i refl
 
 module _ (p r a b : ℕ) where
   pub sum-number : Is p r (Z p .add (el p a) (el p b)) → r ≡ (a + b) % p

@@ -2,10 +2,9 @@
 --   sum-small sum-large               a + b below p, and from p on
 --   difference-large difference-small a − b where a ≥ b, and where a < b
 --   negative-zero negative-more       −a where a = 0, and where a > 0
-use mathlib.Core.Path.{_≡_, refl, sym, _∙_, ap}
+use mathlib.Core.Path.{_≡_, sym, _∙_, ap}
 use Prim.Native.Nat.{ℕ, _+_, _-_, _≤_, _<_}
 use native.Mathlib.Omega.{arith}
-use Rattle.algebra.specs.Ring.{CommRing}
 use Rattle.field.specs.Residue.{Z, el}
 use Rattle.field.specs.Element.{el-add, el-zero, el-self, el-neg, el-sub}
 use Rattle.field.specs.Contract.{Is}

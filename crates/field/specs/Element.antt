@@ -10,7 +10,7 @@
 --   Z-discrete                          equality of residues is decidable
 --   el-pos                              a number from 1 to p − 1 has a residue that is not zero
 use mathlib.Core.Path.{_≡_, refl, sym, _∙_, ap}
-use Prim.Native.Nat.{ℕ, zero, suc, pred, _+_, _*_, _-_, _%_, _≤_, _<_}
+use Prim.Native.Nat.{ℕ, zero, suc, _+_, _*_, _-_, _%_, _≤_, _<_}
 use native.Mathlib.Nat.{mod-self, mod-zero, mod-mod, zero-mod, add-mod, mod-eq-of-lt}
 use native.Mathlib.Decide.{Fin-discrete}
 use native.Mathlib.Omega.{arith}

@@ -3,13 +3,13 @@
 --   inverse-unique     y = x⁻¹ if x·y = 1
 --   prime-large        1 < p
 --   prime-rest         no number from 2 to p − 1 divides p
-use mathlib.Core.Path.{_≡_, refl, sym, _∙_, ap}
+use mathlib.Core.Path.{_≡_, sym, _∙_, ap}
 use Prim.Native.Nat.{ℕ, _%_, _<_}
 use native.Mathlib.Omega.{arith}
-use Rattle.algebra.specs.Ring.{CommRing, Field}
+use Rattle.algebra.specs.Ring.{Field}
 use Rattle.prime.specs.Prime.{Prime}
-use Rattle.field.specs.Residue.{Z, el}
-use Rattle.field.specs.Element.{el-zero, el-one, el-pos, Z-discrete}
+use Rattle.field.specs.Residue.{Z}
+use Rattle.field.specs.Element.{el-one, el-pos, Z-discrete}
 use Rattle.field.specs.Inverse.{lt-of-ne, inverse, inverse-zero, inverse-mul}
 
 pub prime-large : (p : ℕ) → Prime p → 1 < p

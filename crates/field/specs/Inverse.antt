@@ -2,10 +2,9 @@
 --   quotient p k n     the inverse of the residue of n, if n is at most the fuel k: with p = q·n + r it is −q times the inverse of r
 --   inverse p x        the inverse of x
 use mathlib.Core.Path.{_≡_, refl, sym, _∙_, ap}
-use Prim.Native.Nat.{ℕ, zero, suc, _+_, _*_, _-_, _/_, _%_, _≤_, _<_}
+use Prim.Native.Nat.{ℕ, zero, suc, _/_, _%_, _≤_, _<_}
 use native.Mathlib.Nat.{div-add-mod, mod-lt}
 use native.Mathlib.Omega.{arith}
-use Rattle.algebra.specs.Ring.{CommRing}
 use Rattle.field.specs.Residue.{Z, el, num}
 use Rattle.field.specs.Element.{el-zero, el-one, el-num, el-self, el-rest, num-lt, num-el}
 

@@ -1,7 +1,7 @@
 -- Laws of remainders that the ring of residues is built from. Sums are the library's; products are here.
 --   mod-mul-mod        (n % m · k) % m = (n · k) % m
 --   mul-mod-mod        (n · (k % m)) % m = (n · k) % m
-use mathlib.Core.Path.{_≡_, refl, sym, _∙_, ap}
+use mathlib.Core.Path.{_≡_, sym, _∙_, ap}
 use Prim.Native.Nat.{ℕ, _+_, _*_, _/_, _%_}
 use native.Mathlib.Nat.{div-add-mod', mul-comm, mul-add-mod-self-right}
 use native.Mathlib.Omega.{arith}

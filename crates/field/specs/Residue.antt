@@ -5,9 +5,9 @@
 --   el p n             the residue of n modulo p
 --   num p x            the number below p that x is the residue of
 -- Z and el stay shut: reason by the laws of the ring and those of specs/Element.
-use mathlib.Core.Path.{_≡_, refl, sym, _∙_, ap}
+use mathlib.Core.Path.{_≡_, sym, _∙_, ap}
 use mathlib.Core.HLevel.{hedberg}
-use Prim.Native.Nat.{ℕ, zero, suc, pred, _+_, _*_, _-_, _/_, _%_, _≤_, _<_, Fin}
+use Prim.Native.Nat.{ℕ, zero, suc, pred, _+_, _*_, _-_, _%_, _<_, Fin}
 use native.Mathlib.Nat.{mod-lt, mod-eq-of-lt, mod-self, zero-mod, mod-add-mod, add-mod-mod, add-comm, add-assoc, mul-comm, mul-assoc, mul-add}
 use native.Mathlib.Decide.{Fin·val-path, Fin-discrete}
 use native.Mathlib.Omega.{arith}

@@ -2,7 +2,7 @@
 --   clear p k n        none of the 2^k numbers from n on, from 2 up, divides p
 --   prime-by           p is a prime if p < 2^2k and none of the numbers below 2^k divides it
 --   prime-2 …          2, 3, 5, 2147483647 and 4294967291 are primes
-use mathlib.Core.Path.{_≡_, refl, sym, _∙_, ap, subst}
+use mathlib.Core.Path.{_≡_, sym, _∙_, ap}
 use mathlib.Core.Logic.{_⊎_, inl, inr}
 use mathlib.Core.Bool.{Bool, true, false}
 use Prim.Native.Nat.{ℕ, zero, suc, _+_, _*_, _/_, _%_, _^_, _≤_, _<_}

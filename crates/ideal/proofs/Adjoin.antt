@@ -1,7 +1,7 @@
 -- A based space stays based when one element is added, or all multiples of an element.
 --   sum-lead           the lead of u + w is one of u's or w's, if U and W share no lead
 --   Plus U v           u + a·v, u in U and a constant
---   plus-old, plus-new     it holds U and v
+--   plus-old               it holds U
 --   plus-space         it is a space
 --   plus-based         Plus U v is based if U is
 --   divide             r = f·q + t with t below d + 6
@@ -47,9 +47,6 @@ module _ {R : CommRing} (P : Poles R) where
 
   pub plus-old : {U : Car → Type 0} (v : Car) {u : Car} → U u → Plus U v u
   plus-old v {u} m = (zero, u, below-zero 1, m, simp ring)
-
-  pub plus-new : {U : Car → Type 0} (v : Car) → IsSpace P U → Plus U v v
-  plus-new v s = (one, zero, one-pole P .upper, s .nil, simp ring)
 
   pub plus-space : {U : Car → Type 0} (v : Car) → IsSpace P U → IsSpace P (Plus U v)
   plus-space {U} v s = record {

@@ -5,7 +5,6 @@
 --   generated-each         it holds each element of gs
 --   generated-first, generated-rest    … and what the rest of gs generates
 --   generated-in           an ideal that holds each element of gs holds it
---   generated-same         two lists that generate each other's elements generate the same ideal
 --   products gs hs         the products of one element from each list
 --   products-each          they are in I·J if gs is in I and hs in J
 --   products-source        what holds of each of them holds of each g·h
@@ -61,9 +60,6 @@ module _ (R : CommRing) where
   pub generated-in : {I : Car → Type 0} → IsIdeal R I → (gs : List Car) → Every I gs → (h : Car) → Generated R gs h → I h
   generated-in {I} i [] _ h e = subst I (sym e) (i .nil)
   generated-in {I} i (g ∷ gs) (m, ms) h (r, s, ms′, e) = subst I (sym e) (i .sum (i .times r m) (generated-in i gs ms s ms′))
-
-  pub generated-same : (gs hs : List Car) → Every (Generated R hs) gs → Every (Generated R gs) hs → SameIdeal R (Generated R gs) (Generated R hs)
-  generated-same gs hs ms ns h = (generated-in (generated-ideal hs) gs ms h, generated-in (generated-ideal gs) hs ns h)
 
   abbrev pub products : List Car → List Car → List Car
   products [] hs = []

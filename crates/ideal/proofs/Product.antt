@@ -12,7 +12,6 @@
 --   productof-swap         two neighbours may change places
 --   productof-one          the product of one ideal
 --   product-equivalent     I ~ I′ and J ~ J′ give I·J ~ I′·J′; product-equivalent-left and -right: for one factor
---   productof-equivalent   … and so for lists
 --   productof-join         if A ~ ∏ xs and B ~ ∏ ys, then A·B ~ ∏ (xs ++ ys)
 use mathlib.Core.Path.{_≡_, refl, sym, _∙_, ap, subst}
 use mathlib.Core.Logic.{Iff·rfl, Iff·symm, Iff·trans}
@@ -22,7 +21,7 @@ use Rattle.algebra.proofs.Laws as laws
 use Rattle.ideal.specs.Ideal.{IsIdeal, Product, none, more, ProductOf, SameIdeal, Equivalent}
 use Rattle.ideal.specs.Poles.{Poles}
 use Rattle.ideal.proofs.Every.{Every}
-use Rattle.ideal.proofs.Class.{equivalent-refl, equivalent-same, equivalent-sym, equivalent-trans}
+use Rattle.ideal.proofs.Class.{equivalent-same, equivalent-sym, equivalent-trans}
 
 module _ (R : CommRing) where
   open CommRing R using (Car, zero, add as _⊕_, mul as _⊗_)
@@ -136,11 +135,6 @@ module _ {R : CommRing} (P : Poles R) where
 
   pub product-equivalent : {I I′ J J′ : Car → Type 0} → Equivalent R I I′ → Equivalent R J J′ → Equivalent R (Product R I J) (Product R I′ J′)
   product-equivalent e e′ = equivalent-trans P (product-equivalent-left e) (product-equivalent-right e′)
-
-  pub productof-equivalent : {X : Type 0} (f g : X → Car → Type 0) (xs : List X) → Every (λ x. Equivalent R (f x) (g x)) xs
-      → Equivalent R (ProductOf R f xs) (ProductOf R g xs)
-  productof-equivalent f g [] _ = equivalent-refl P (λ _. Unit)
-  productof-equivalent f g (x ∷ xs) (e, es) = product-equivalent e (productof-equivalent f g xs es)
 
   -- The product of two sums is the sum of the joined groups.
   pub productof-join : {X : Type 0} (f : X → Car → Type 0) {A B : Car → Type 0} (xs ys : List X) → Every (λ x. IsIdeal R (f x)) xs

@@ -2,7 +2,6 @@
 --   F-cubic            F is the monic cubic y³ + t2·y² + t1·y + t0 over k[x]
 --   normal-onto        each element of the coordinate ring is the normal form of a polynomial in x and y
 --   normal-kernel      a polynomial has the normal form 0 exactly if it is a multiple of F
---   normal-F           F has the normal form 0
 --   part-0 part-1 part-2           the parts of the element a + b·y + c·y²
 --   normal-quadratic   the normal form of the polynomial a + b·y + c·y² is the element of-parts C a b c
 use mathlib.Core.Path.{_≡_, sym, _∙_, ap, subst}
@@ -10,7 +9,6 @@ use mathlib.Core.Logic.{_↔_}
 use mathlib.Core.List.{List, [], _∷_}
 use Prim.Native.Nat.{ℕ}
 use Rattle.algebra.specs.Ring.{CommRing}
-use Rattle.algebra.proofs.Laws.{one-mul}
 use Rattle.algebra.proofs.Norm.{nil, unit}
 use Rattle.algebra.proofs.Solve.{_⊞_, _⊠_, ⊟_, solve, given, solve-from}
 use Rattle.polynomial.specs.Poly.{Poly, const}
@@ -116,6 +114,3 @@ module _ {k : CommRing} (C : Curve k) where
     where
       cubics : (normal C .map f ≡ 𝟘) ↔ ((q : Pol) × (f ≡ q ·ₚ cubic (Poly k) (t0 C) (t1 C) (t2 C)))
       cubics = K.kernel (over-x C) (y C) (t0 C) (t1 C) (t2 C) root independent f
-
-  pub normal-F : normal C .map (F C) ≡ 𝟘
-  normal-F = normal-kernel (F C) .1 (𝟏, sym (one-mul (Plane k) (F C)))

@@ -1,10 +1,7 @@
--- Evaluation is a ring map, and the only one that is φ on constants and b at the variable.
+-- Evaluation is a ring map that is φ on constants and b at the variable.
 --   map-neg            a ring map keeps negatives
 --   eval-split         the value of k + X·f is φ k + b·(the value of f)
 --   eval-zero eval-const eval-X eval-X-mul eval-one eval-add eval-mul
---   constants A        const as a ring map
---   evaluation φ b     eval φ b as a ring map
---   eval-unique        a ring map that is φ on constants and b at X is eval φ b
 use mathlib.Core.Path.{_≡_, refl, sym, _∙_, ap, ap₂, fun-ext}
 use mathlib.Core.Logic.{∥∥₁-elim}
 use Prim.Native.Nat.{ℕ, zero, suc, _+_}
@@ -18,14 +15,11 @@ use Rattle.polynomial.specs.Bounds.{Bound, bound-add, bound-more}
 use Rattle.polynomial.specs.Poly.{Poly, coef, const, X, finite}
 use Rattle.polynomial.specs.RingMap.{RingMap}
 use Rattle.polynomial.specs.Eval.{horner, eval, eval-bound}
-use Rattle.polynomial.proofs.Coef.{coef-zero, coef-add, coef-split-head, coef-split-next, const-zero, const-one, const-add, const-mul}
+use Rattle.polynomial.proofs.Coef.{coef-zero, coef-add, coef-split-head, coef-split-next, const-zero, const-one, const-mul}
 use Rattle.polynomial.proofs.Induct.{induct}
 
 pub map-neg : {A B : CommRing} (φ : RingMap A B) (a : A .Car) → φ .map (A .neg a) ≡ B .neg (φ .map a)
 map-neg {A} {B} φ a = neg-unique B (φ .map a) (φ .map (A .neg a)) (sym (φ .map-add a (A .neg a)) ∙ ap (φ .map) (A .add-neg a) ∙ φ .map-zero)
-
-pub constants : (A : CommRing) → RingMap A (Poly A)
-constants A = record { map = const A; map-zero = const-zero A; map-one = const-one A; map-add = const-add A; map-mul = const-mul A }
 
 module _ {A B : CommRing} (φ : RingMap A B) (b : B .Car) where
   open CommRing B using (add as _⊕_, mul as _⊗_, zero as 𝟘, one as 𝟙)
@@ -110,12 +104,3 @@ module _ {A B : CommRing} (φ : RingMap A B) (b : B .Car) where
           ∙ eval-add _ _ ∙ ap₂ _⊕_ (eval-const-mul k g) (eval-X-mul (f ·ₚ g) ∙ ap (λ v. b ⊗ v) h)
           ∙ solve B 4 (λ k b u v. k ⊠ v ⊞ b ⊠ (u ⊠ v)) (λ k b u v. (k ⊞ b ⊠ u) ⊠ v) tt (φ .map k) b (eval φ b f) (eval φ b g)
           ∙ ap (λ u. u ⊗ eval φ b g) (sym (eval-split k f))
-
-  pub evaluation : RingMap (Poly A) B
-  evaluation = record { map = eval φ b; map-zero = eval-zero; map-one = eval-one; map-add = eval-add; map-mul = eval-mul }
-
-  pub eval-unique : (ψ : RingMap (Poly A) B) → ((k : A .Car) → ψ .map (const A k) ≡ φ .map k) → ψ .map (X A) ≡ b → (f : Pol) → ψ .map f ≡ eval φ b f
-  eval-unique ψ c x = induct A (λ f. ψ .map f ≡ eval φ b f) (λ f. B .isSet _ _) (ψ .map-zero ∙ sym eval-zero) step
-    where
-      step : (k : A .Car) (f : Pol) → ψ .map f ≡ eval φ b f → ψ .map (const A k +ₚ X A ·ₚ f) ≡ eval φ b (const A k +ₚ X A ·ₚ f)
-      step k f h = ψ .map-add _ _ ∙ ap₂ _⊕_ (c k) (ψ .map-mul _ _ ∙ ap₂ _⊗_ x h) ∙ sym (eval-split k f)

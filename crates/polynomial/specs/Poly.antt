@@ -6,12 +6,11 @@
 --   const A k          the polynomial k
 --   X A                the variable
 --   rest A f           f without its constant coefficient, divided by the variable
---   power A n          the n-th power of the variable
 --   poly-path          polynomials with the same coefficients are equal
 use mathlib.Core.Path.{_≡_, refl, fun-ext}
 use mathlib.Core.Logic.{∥∥₁-prop}
 use mathlib.Core.HLevel.{Σ-prop-path, Σ-set, prop→set, →-set}
-use Prim.Native.Nat.{ℕ, zero, suc}
+use Prim.Native.Nat.{ℕ, zero}
 use Rattle.algebra.specs.Ring.{CommRing}
 use Rattle.polynomial.specs.Series.{Series, tail, product, constant, shift}
 use Rattle.polynomial.specs.SeriesLaws.{product-comm, product-assoc, product-one, product-add}
@@ -68,7 +67,3 @@ module _ (A : CommRing) where
 
   unfoldable pub rest : Poly .Car → Poly .Car
   rest f = poly (tail A (coef f)) (finite-tail A (coef f) (finite f))
-
-  unfoldable pub power : ℕ → Poly .Car
-  power zero = Poly .one
-  power (suc n) = Poly .mul X (power n)

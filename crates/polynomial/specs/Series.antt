@@ -4,7 +4,7 @@
 --   product a b        the product: (ab)₀ = a₀·b₀ and (ab)ₙ₊₁ = a₀·bₙ₊₁ + ((tail a)·b)ₙ
 --   constant k         k, 0, 0, …
 --   shift a            the variable times a: 0, a₀, a₁, …
--- The clauses of these as equations, for rewriting: product-head, product-next, shift-head, shift-next, and so on.
+-- The clauses of these as equations, for rewriting: product-head, product-next, constant-head, constant-next, shift-next.
 use mathlib.Core.Path.{_≡_, refl}
 use Prim.Native.Nat.{ℕ, zero, suc}
 use Rattle.algebra.specs.Ring.{CommRing}
@@ -47,10 +47,6 @@ module _ (A : CommRing) where
   pub constant-next : (k : Car) (n : ℕ) → constant k (suc n) ≡ 𝟘
   unfolding constant
   constant-next k n = refl
-
-  pub shift-head : (a : Series) → shift a zero ≡ 𝟘
-  unfolding shift
-  shift-head a = refl
 
   pub shift-next : (a : Series) (n : ℕ) → shift a (suc n) ≡ a n
   unfolding shift

@@ -14,7 +14,8 @@ use Prim.Native.Nat.{ℕ}
 use lib.Dec.{T}
 use Rattle.algebra.specs.Ring.{Ops, CommRing, ops}
 use Rattle.algebra.proofs.Laws as L
-use Rattle.algebra.proofs.Norm.{E, num, nil, unit, both, E-ops}
+use Rattle.algebra.proofs.Norm.{E, num, nil, unit, E-ops}
+use Rattle.algebra.proofs.Test.{both, both-left, both-right}
 use Rattle.algebra.proofs.Sound.{number, head, tail}
 use Rattle.algebra.proofs.Solve.{_⊞_, _⊠_}
 use Rattle.prime.specs.Prime.{Prime}
@@ -33,7 +34,6 @@ use Rattle.divisor.specs.Kind.{Kind, k0, k11, k21, k22, k31, polynomials, remai
 use Rattle.divisor.proofs.Table.{class-by}
 use Rattle.divisor.proofs.Members.{member, members}
 use Rattle.divisor.proofs.Basis.{Closed, closed-basis}
-use Rattle.worked.proofs.Tests.{both-left, both-right}
 use Rattle.worked.proofs.Vanish.{x, y, coefficients-of, at-xy, constant-number, agree, agree-sound}
 use Rattle.worked.proofs.Element.{only-x, inx-sound}
 

@@ -15,7 +15,8 @@ use lib.Dec.{T, ltb, ltb→lt}
 use lib.ListN.{getD}
 use Rattle.algebra.specs.Ring.{CommRing}
 use Rattle.algebra.proofs.Laws as L
-use Rattle.algebra.proofs.Norm.{E, var, num, nil, unit, sum, prod, opp, pow, H, z, con, cons, both}
+use Rattle.algebra.proofs.Norm.{E, var, num, nil, unit, sum, prod, opp, pow, H, z, con, cons}
+use Rattle.algebra.proofs.Test.{both, both-left, both-right, either, of-either}
 use Rattle.algebra.proofs.Sound.{number, raise}
 use Rattle.algebra.proofs.Solve.{_⊞_, _⊠_}
 use Rattle.prime.specs.Prime.{Prime}
@@ -37,7 +38,6 @@ use Rattle.nonsingular.proofs.Quotient.{normal-quadratic, part-0, part-1, part-
 use Rattle.nonsingular.proofs.Derivative.{coef-ascending}
 use Rattle.divisor.proofs.Monomials.{mono-x}
 use Rattle.divisor.proofs.Members.{poles-mono}
-use Rattle.worked.proofs.Tests.{both-left, both-right, either, of-either}
 use Rattle.worked.proofs.Vanish.{x, y, coefficients-of, at-xy, constant-number, Division, divide, agree, agree-sound}
 
 abbrev pub only-x : E → Bool

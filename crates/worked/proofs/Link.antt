@@ -14,7 +14,8 @@ use native.Mathlib.Omega.{arith}
 use lib.Dec.{T}
 use Rattle.algebra.specs.Ring.{CommRing}
 use Rattle.algebra.proofs.Laws as L
-use Rattle.algebra.proofs.Norm.{E, both}
+use Rattle.algebra.proofs.Norm.{E}
+use Rattle.algebra.proofs.Test.{both, both-left, both-right}
 use Rattle.algebra.proofs.Sound.{head, tail}
 use Rattle.algebra.proofs.Solve.{_⊠_}
 use Rattle.ideal.specs.Ideal.{IsIdeal, Generated, Product, SameIdeal, Equivalent}
@@ -30,7 +31,6 @@ use Rattle.record.specs.Divisor.{of-kind}
 use Rattle.record.proofs.Accepted.{ideal-reads}
 use Rattle.calls.specs.Class.{Ring, Record, Ideal, poles-on, IsSum}
 use Rattle.calls.proofs.Class.{class-reduced}
-use Rattle.worked.proofs.Tests.{both-left, both-right}
 use Rattle.worked.proofs.Vanish.{coefficients-of, at-xy, agree, agree-sound}
 use Rattle.worked.proofs.Element.{nonzero, nonzero-sound}
 use Rattle.worked.proofs.Basis.{combine, polynomials-xy, values, values-polynomials, generated-combine}

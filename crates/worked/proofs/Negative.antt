@@ -11,7 +11,8 @@ use Prim.Native.Nat.{ℕ, _+_, _-_, _%_, _≤_}
 use native.Mathlib.Omega.{arith}
 use lib.Dec.{T, leb, leb→le}
 use Rattle.algebra.specs.Ring.{CommRing, Field}
-use Rattle.algebra.proofs.Norm.{E, num, nil, both}
+use Rattle.algebra.proofs.Norm.{E, num, nil}
+use Rattle.algebra.proofs.Test.{both, both-left, both-right}
 use Rattle.algebra.proofs.Sound.{number, head, tail}
 use Rattle.algebra.proofs.Solve.{_⊞_, _⊠_, ⊟_}
 use Rattle.field.specs.Residue.{Z, el}
@@ -38,7 +39,6 @@ use Rattle.record.specs.Divisor.{of-kind, number-at}
 use Rattle.record.proofs.Accepted.{Reads, ideal-reads}
 use Rattle.calls.specs.Class.{Ring, Record, Ideal, poles-on, IsNegative}
 use Rattle.worked.specs.Table.{Point}
-use Rattle.worked.proofs.Tests.{both-left, both-right}
 use Rattle.worked.proofs.Vanish.{x, y, coefficients-of, at-xy, constant-number, agree, agree-sound}
 use Rattle.worked.proofs.Basis.{values, values-polynomials}
 use Rattle.worked.proofs.Accepted.{numbers-of}

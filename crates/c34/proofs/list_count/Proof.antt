@@ -1,5 +1,5 @@
 -- The records before the place `at` are read, and `count` of them have the kind. The measure is what is left of the list.
-use Rattle.c34.proofs.Sums.{part-from, next-bounds, tallied-start, tallied-yes, tallied-no, tallied-refused, tallied-end}
+use Rattle.c34.proofs.Sums.{part-from, next-bounds, tallied-start, tallied-yes, tallied-no, tallied-refused, tallied-end, Summed, Tallied}
 use Rattle.c34.proofs.Ground.{cube-asked, reads-on}
 use denote.Ref.{now}
 use Prim.Native.Nat.{ℕ, _+_}
@@ -9,7 +9,6 @@ use Prim.Native.Nat.{_-_, _≤_}
 use native.Mathlib.Omega.{arith}
 use borrow.Author.Needs.{needs}
 use lib.ListN.{length}
-use Rattle.c34.proofs.Sums.{Summed, Tallied}
 use Rattle.c34.proofs.list_count.Statement.{statement}
 use Rattle.c34.proofs.list_count.Tie as tie
 

@@ -1,12 +1,11 @@
 -- The records before the place `at` are read, and `total` is their list sum. The measure is what is left of the list.
-use Rattle.c34.proofs.Sums.{part-from, next-bounds, summed-start, summed-asked, summed-more, summed-refused, summed-end}
+use Rattle.c34.proofs.Sums.{part-from, next-bounds, summed-start, summed-asked, summed-more, summed-refused, summed-end, Summed, Tallied}
 use Rattle.c34.proofs.Ground.{cube-asked, one-below, reads-on, sum-asked, sum-made}
 use denote.Ref.{now}
 use Prim.Native.Nat.{_-_, _≤_}
 use native.Mathlib.Omega.{arith}
 use borrow.Author.Needs.{needs}
 use lib.ListN.{length}
-use Rattle.c34.proofs.Sums.{Summed, Tallied}
 use Rattle.c34.proofs.list_total.Statement.{statement}
 use Rattle.c34.proofs.list_total.Tie as tie
 
