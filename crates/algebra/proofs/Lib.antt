@@ -4,3 +4,4 @@ pub mod Test
 pub mod Norm
 pub mod Sound
 pub mod Solve
+pub mod Cubic

@@ -1,2 +1,4 @@
--- Commutative rings and fields.
+-- Commutative rings, fields and ring maps; normal forms modulo a monic cubic.
 pub mod Ring
+pub mod RingMap
+pub mod Cubic

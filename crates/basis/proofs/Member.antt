@@ -15,7 +15,7 @@ use Rattle.prime.specs.Prime.{Prime}
 use Rattle.field.specs.Residue.{Z, el}
 use Rattle.field.specs.Element.{el-zero}
 use Rattle.curve.specs.Curve.{Curve, Coordinate, x, y, constant}
-use Rattle.curve.specs.Coefficient.{constant-zero}
+use Rattle.curve.proofs.Coefficient.{constant-zero}
 use Rattle.curve.specs.Monomial.{mono}
 use Rattle.divisor.specs.Kind.{Kind, k0, k11, k21, k22, k31}
 use Rattle.divisor.proofs.Table.{degree, degree-bound}

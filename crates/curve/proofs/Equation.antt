@@ -8,7 +8,7 @@ use Rattle.algebra.specs.Ring.{CommRing, Ops, ops}
 use Rattle.algebra.proofs.Norm.{E-ops, nil, unit}
 use Rattle.algebra.proofs.Solve.{solve-from, given, _⊞_, _⊠_, ⊟_}
 use Rattle.polynomial.specs.Poly.{Poly, const, X}
-use Rattle.curve.specs.Component as M
+use Rattle.curve.proofs.Component as M
 use Rattle.curve.specs.Curve.{Curve, ascending, t0, t1, t2, Coordinate, x, y, in-x, constant}
 
 -- y³ + a0·x⁴ + c8·xy² + c7·x²y + c6·x³ + c5·y² + c4·xy + c3·x² + c2·y + c1·x + c0

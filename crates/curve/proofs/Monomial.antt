@@ -11,12 +11,13 @@ use Rattle.algebra.specs.Ring.{CommRing}
 use Rattle.algebra.proofs.Laws as L
 use Rattle.ideal.specs.Poles.{IsPole}
 use Rattle.curve.specs.Curve.{Curve, Coordinate, x, y, at}
-use Rattle.curve.specs.Back.{weigh-vanish}
-use Rattle.curve.specs.Coefficient.{at-one-0, at-one-x, at-one-y, at-x-first, at-x-next, at-y-0, at-y-1, at-y-2}
-use Rattle.curve.specs.Pole.{pole, Located, place, gap, locate}
+use Rattle.curve.proofs.Back.{weigh-vanish}
+use Rattle.curve.proofs.Coefficient.{at-one-0, at-one-x, at-one-y, at-x-first, at-x-next, at-y-0, at-y-1, at-y-2}
+use Rattle.curve.specs.Pole.{pole}
+use Rattle.curve.proofs.Pole.{Located, place, gap, locate}
 use Rattle.curve.specs.Monomial.{coefficient, power, monomial, mono}
-use Rattle.curve.specs.Term.{coefficient-pole, coefficient-gap}
-use Rattle.curve.specs.Product.{mono-monomial}
+use Rattle.curve.proofs.Term.{coefficient-pole, coefficient-gap}
+use Rattle.curve.proofs.Product.{mono-monomial}
 
 module _ {k : CommRing} (C : Curve k) where
   open CommRing k using (Car, zero as 𝟘, one as 𝟙, add as _+ₖ_, mul as _·ₖ_, neg as -ₖ_)

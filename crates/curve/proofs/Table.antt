@@ -11,7 +11,9 @@ use native.Mathlib.Decide.{decLe}
 use lib.Dec.{eqb, eqb→eq}
 use Rattle.algebra.proofs.Test.{both, both-left, both-right, all-below, all-below-at}
 use Rattle.ideal.specs.Poles.{IsGap}
-use Rattle.curve.specs.Pole.{pole, y-at, x-at, Located, place, gap, locate}
+use Rattle.curve.specs.Pole.{pole}
+use Rattle.curve.specs.Table.{y-at, x-at}
+use Rattle.curve.proofs.Pole.{Located, place, gap, locate}
 
 -- x^i·y^j is the entry at its pole number
 abbrev stands : ℕ → ℕ → Bool

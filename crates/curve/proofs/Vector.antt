@@ -7,9 +7,9 @@ use Prim.Native.Nat.{ℕ, zero, _≤_}
 use Rattle.algebra.specs.Ring.{CommRing}
 use Rattle.ideal.specs.Poles.{IsGap, IsPole}
 use Rattle.curve.specs.Curve.{Curve, Coordinate, constant}
-use Rattle.curve.specs.Pole.{gap-dec}
+use Rattle.curve.proofs.Pole.{gap-dec}
 use Rattle.curve.specs.Monomial.{coefficient, vector}
-use Rattle.curve.specs.Term.{coefficient-gap, coefficient-ext, coefficient-zero, coefficient-constant-mul, coefficient-vector}
+use Rattle.curve.proofs.Term.{coefficient-gap, coefficient-ext, coefficient-zero, coefficient-constant-mul, coefficient-vector}
 
 module _ {k : CommRing} (C : Curve k) where
   open CommRing k using (Car, zero as 𝟘, add as _+ₖ_, mul as _·ₖ_, neg as -ₖ_)

@@ -3,6 +3,7 @@
 --   power R a n        aⁿ
 --   monomial i j       x^i·y^j
 --   mono n             the normal monomial of pole number n, where there is one
+--   Below n g          every monomial of g has a pole number below n
 --   coefficient n g    the coefficient of that monomial in the normal form of g; 0 where there is none
 --   vector f N h       the element with the coefficient f n at each pole number n; f vanishes from N on
 --   twist m n          the lead's coefficient of mono m·mono n: −a0 if (m mod 3) + (n mod 3) ≥ 3, for then a y³ comes up, and else 1
@@ -31,6 +32,10 @@ module _ {k : CommRing} (C : Curve k) where
 
   unfoldable pub mono : ℕ → Coordinate C .Car
   mono n = monomial (x-power n) (y-power n)
+
+  -- Below 0 g: g is zero. Below (n + 1) g and not Below n g: the lead of g has the pole number n.
+  pub record Below (n : ℕ) (g : Coordinate C .Car) : Type 0 where
+    pub vanish : (i j : ℕ) → j ≤ 2 → n ≤ pole i j → at C i j g ≡ k .zero
 
   -- where 4·(n mod 3) is above n, the number n is a gap
   unfoldable pub coefficient : ℕ → Coordinate C .Car → k .Car

@@ -29,8 +29,9 @@ use Rattle.ideal.proofs.Reduced.{SmallFootprint, footprint-same}
 use Rattle.ideal.proofs.Finite.{BasedIdeal, footprint-based}
 use Rattle.curve.specs.Curve.{Curve, Coordinate, y}
 use Rattle.curve.specs.Monomial.{coefficient, mono}
-use Rattle.curve.specs.Term.{coefficient-gap}
-use Rattle.curve.specs.Poles.{poles, below-some}
+use Rattle.curve.proofs.Term.{coefficient-gap}
+use Rattle.poles.specs.Poles.{poles}
+use Rattle.curve.proofs.Poles.{below-some}
 use Rattle.divisor.specs.Kind.{Kind, polynomials, remaining, IdealOf, MadeOf, IsBasis}
 use Rattle.divisor.proofs.Monomials.{mono-y}
 use Rattle.divisor.proofs.Terms.{distinct, absent, made-within, within-made}

@@ -30,12 +30,12 @@ use Rattle.ideal.proofs.Generated.{generated-ideal, generated-in, generated-eac
 use Rattle.ideal.proofs.Reduced.{SmallFootprint, reduced-exists, reduced-footprint, reduced-unique}
 use Rattle.ideal.proofs.Finite.{BasedIdeal, generated-lead, generated-based-ideal}
 use Rattle.curve.specs.Curve.{Curve, Coordinate}
-use Rattle.curve.specs.Coefficient.{constant-one}
-use Rattle.curve.specs.Monomial.{coefficient, mono, pick}
-use Rattle.curve.specs.Term.{coefficient-gap, coefficient-neg}
-use Rattle.curve.specs.Filtration.{Below, below-coefficient}
-use Rattle.curve.specs.Product.{below-mono}
-use Rattle.curve.specs.Poles.{poles}
+use Rattle.curve.proofs.Coefficient.{constant-one}
+use Rattle.curve.specs.Monomial.{coefficient, mono, pick, Below}
+use Rattle.curve.proofs.Term.{coefficient-gap, coefficient-neg}
+use Rattle.curve.proofs.Filtration.{below-coefficient}
+use Rattle.curve.proofs.Product.{below-mono}
+use Rattle.poles.specs.Poles.{poles}
 use Rattle.divisor.specs.Kind.{Kind, k0, k11, k21, k22, k31, size, polynomials, IdealOf, IsBasis}
 use Rattle.divisor.proofs.Terms.{terms, absent, distinct, pole-test, pole-test-pole, Within, within-neg, reading, reading-terms}
 use Rattle.algebra.proofs.Test.{both, both-left, both-right}

@@ -24,13 +24,13 @@ use Rattle.ideal.proofs.Generated.{generated-ideal, generated-each}
 use Rattle.ideal.proofs.Span.{Span, span-space, span-each, span-in}
 use Rattle.ideal.proofs.Triple.{Reach, triple-lead, triple-reach, triple-based}
 use Rattle.curve.specs.Curve.{Curve, Coordinate, x, y, constant}
-use Rattle.curve.specs.Monomial.{coefficient, mono}
-use Rattle.curve.specs.Term.{pick-true}
-use Rattle.curve.specs.Filtration.{Below, below-coefficient, coefficient-below}
-use Rattle.curve.specs.Lead.{twist-one, top-y}
-use Rattle.curve.specs.Product.{below-mono, coefficient-mono}
-use Rattle.curve.specs.Poles.{poles}
-use Rattle.curve.proofs.Monic.{monic-coefficient, coefficient-monic}
+use Rattle.curve.specs.Monomial.{coefficient, mono, Below}
+use Rattle.curve.proofs.Term.{pick-true}
+use Rattle.curve.proofs.Filtration.{below-coefficient, coefficient-below}
+use Rattle.curve.proofs.Lead.{twist-one, top-y}
+use Rattle.curve.proofs.Product.{below-mono, coefficient-mono}
+use Rattle.poles.specs.Poles.{poles}
+use Rattle.poles.proofs.Monic.{monic-coefficient, coefficient-monic}
 use Rattle.divisor.specs.Kind.{Kind, k0, k11, k21, k22, k31, polynomials, IdealOf}
 use Rattle.divisor.proofs.Monomials.{mono-one, mono-x, mono-y, mono-xx, mono-xy, mono-yy}
 use Rattle.divisor.proofs.Terms.{Terms, terms, places, distinct, below, coefficient-terms, terms-top, pole-test-pole, pole-test}

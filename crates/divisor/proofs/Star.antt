@@ -17,7 +17,7 @@ use Rattle.ideal.proofs.Leads.{Lead}
 use Rattle.ideal.proofs.Colon.{colon-ideal}
 use Rattle.ideal.proofs.Recognise.{recognise}
 use Rattle.curve.specs.Curve.{Curve, Coordinate, y}
-use Rattle.curve.specs.Poles.{poles}
+use Rattle.poles.specs.Poles.{poles}
 use Rattle.divisor.specs.Kind.{Kind, polynomials, IdealOf, IsBasis}
 use Rattle.divisor.proofs.Terms.{absent}
 use Rattle.algebra.proofs.Test.{both}

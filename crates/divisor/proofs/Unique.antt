@@ -22,8 +22,8 @@ use Rattle.ideal.proofs.Leads.{Lead, ideal-space, space-neg}
 use Rattle.ideal.proofs.Generated.{generated-ideal, generated-each}
 use Rattle.curve.specs.Curve.{Curve, Coordinate}
 use Rattle.curve.specs.Monomial.{coefficient, pick}
-use Rattle.curve.specs.Term.{coefficient-add, coefficient-neg, pick-true}
-use Rattle.curve.specs.Poles.{poles}
+use Rattle.curve.proofs.Term.{coefficient-add, coefficient-neg, pick-true}
+use Rattle.poles.specs.Poles.{poles}
 use Rattle.divisor.specs.Kind.{Kind, k0, k11, k21, k22, k31, count, polynomials, IdealOf, IsBasis}
 use Rattle.divisor.proofs.Terms.{Terms, find, places, pole-test, absent, distinct, find-absent, coefficient-terms}
 use Rattle.divisor.proofs.Table.{degree, Reached, kind-by, degree-class, remaining-poles, reached-absent, Row, rows, poles-of, fill, row-terms, row-value, polynomials-rows}

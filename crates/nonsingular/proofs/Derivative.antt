@@ -22,9 +22,10 @@ use Rattle.polynomial.proofs.Deriv.{coef-deriv, numeral-number}
 use Rattle.polynomial.proofs.Cubic.{deriv-cubic, by-x-cubic}
 use Rattle.ideal.specs.Poles.{IsGap}
 use Rattle.curve.specs.Curve.{Curve, ascending, t0, t1, t2, Coordinate, at}
-use Rattle.curve.specs.Pole.{pole, Located, place, gap, locate}
+use Rattle.curve.specs.Pole.{pole}
+use Rattle.curve.proofs.Pole.{Located, place, gap, locate}
 use Rattle.curve.specs.Monomial.{coefficient}
-use Rattle.curve.specs.Term.{coefficient-pole, coefficient-gap}
+use Rattle.curve.proofs.Term.{coefficient-pole, coefficient-gap}
 use Rattle.nonsingular.specs.Equation.{Fx, Fy}
 use Rattle.nonsingular.specs.Normal.{of-parts, normal}
 use Rattle.nonsingular.specs.Derivative.{twice, thrice, four-times, derivative-x, derivative-y, vector-x, vector-y}

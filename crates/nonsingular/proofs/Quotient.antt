@@ -14,10 +14,10 @@ use Rattle.algebra.proofs.Solve.{_⊞_, _⊠_, ⊟_, solve, given, solve-from}
 use Rattle.polynomial.specs.Poly.{Poly, const}
 use Rattle.polynomial.specs.Plane as P
 use Rattle.polynomial.specs.Plane.{Plane, scalar}
-use Rattle.polynomial.specs.Cubic.{cubic, quadratic}
+use Rattle.polynomial.proofs.Cubic.{cubic, quadratic}
 use Rattle.polynomial.proofs.Coef.{const-zero, const-add, const-mul}
 use Rattle.polynomial.proofs.Kernel as K
-use Rattle.curve.specs.Component as M
+use Rattle.curve.proofs.Component as M
 use Rattle.curve.specs.Curve.{Curve, ascending, t0, t1, t2, Coordinate, in-x, y, part}
 use Rattle.nonsingular.specs.Equation.{F}
 use Rattle.nonsingular.specs.Normal.{of-parts, over-x, normal}

@@ -11,7 +11,7 @@ use native.Mathlib.Decide.{decLe}
 use native.Mathlib.Nat.{eq-or-lt-of-le}
 use native.Mathlib.Omega.{arith}
 use Rattle.algebra.specs.Ring.{CommRing}
-use Rattle.polynomial.specs.Bounds.{Bound}
+use Rattle.series.specs.Series.{Bound}
 use Rattle.polynomial.specs.Poly.{Poly, coef, finite}
 
 module _ (A : CommRing) where

@@ -10,9 +10,8 @@ use mathlib.Core.Path.{_≡_, refl, sym, _∙_, ap₂}
 use Prim.Native.Nat.{ℕ, zero, suc}
 use Rattle.algebra.specs.Ring.{CommRing}
 use Rattle.algebra.proofs.Laws.{mul-zero, zero-mul, neg-zero, zero-add}
-use Rattle.polynomial.specs.Series.{Series, constant, shift, product-head, product-next}
-use Rattle.polynomial.specs.SeriesLaws.{constant-product}
-use Rattle.polynomial.specs.Bounds.{Finite}
+use Rattle.series.specs.Series.{Series, constant, shift, Finite}
+use Rattle.series.proofs.Product.{product-head, product-next, constant-product}
 use Rattle.polynomial.specs.Poly.{Poly, coef, poly, poly-path, const, X, rest}
 
 module _ (A : CommRing) where

@@ -8,7 +8,7 @@ use Rattle.algebra.specs.Ring.{CommRing}
 use Rattle.algebra.proofs.Laws.{mul-zero}
 use Rattle.algebra.proofs.Sound.{number}
 use Rattle.polynomial.specs.Poly.{Poly, coef, poly-path, const}
-use Rattle.polynomial.specs.Deriv.{numeral, deriv, deriv-series, deriv-of-zero}
+use Rattle.polynomial.specs.Deriv.{numeral, deriv-series, deriv, deriv-of-zero}
 use Rattle.polynomial.proofs.Coef.{coef-zero, coef-poly, coef-const-next, const-one}
 
 module _ (A : CommRing) where

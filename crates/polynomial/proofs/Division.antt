@@ -1,4 +1,6 @@
 -- Division by a monic cubic in A[Y]: quotient and rest exist and there is only one of each.
+--   Parts A                  a quotient and the three coefficients of a rest
+--   Divided A t0 t1 t2 f     parts with f = quotient·(the cubic) + rest
 --   rest-zero                if q·F + (a0 + a1·Y + a2·Y²) is zero, then q, a0, a1 and a2 are
 --   divide-unique            quotient and rest are determined
 --   divided-prop             Divided is a proposition
@@ -13,12 +15,25 @@ use Rattle.algebra.specs.Ring.{CommRing}
 use Rattle.algebra.proofs.Laws.{zero-add, zero-mul, sub-zero→eq, eq→sub-zero}
 use Rattle.algebra.proofs.Norm.{nil}
 use Rattle.algebra.proofs.Solve.{_⊞_, _⊠_, ⊟_, solve}
-use Rattle.polynomial.specs.Bounds.{Bound}
+use Rattle.series.specs.Series.{Bound}
 use Rattle.polynomial.specs.Poly.{Poly, coef, const, X, finite}
-use Rattle.polynomial.specs.Cubic.{cubic, quadratic, Divided}
+use Rattle.polynomial.proofs.Cubic.{cubic, quadratic, coef-quadratic-0, coef-quadratic-1, coef-quadratic-2, coef-quadratic-from, quadratic-zero, quadratic-sub, const-less, coef-cubic-mul}
 use Rattle.polynomial.proofs.Coef.{coef-zero, coef-add}
-use Rattle.polynomial.proofs.Cubic.{coef-quadratic-0, coef-quadratic-1, coef-quadratic-2, coef-quadratic-from, quadratic-zero, quadratic-sub, const-less, coef-cubic-mul}
 use Rattle.polynomial.proofs.Induct.{induct, none}
+
+module _ (A : CommRing) where
+  open CommRing (Poly A) using (Car as Pol, add as _+ₚ_, mul as _·ₚ_)
+
+  infixl 60 _+ₚ_
+  infixl 70 _·ₚ_
+  pub record Parts : Type 0 where
+    pub quotient : Pol
+    pub c0 : A .Car
+    pub c1 : A .Car
+    pub c2 : A .Car
+
+  abbrev pub Divided : A .Car → A .Car → A .Car → Pol → Type 0
+  Divided t0 t1 t2 f = (d : Parts) × (f ≡ d .quotient ·ₚ cubic A t0 t1 t2 +ₚ quadratic A (d .c0) (d .c1) (d .c2))
 
 module _ (A : CommRing) where
   open CommRing A using (Car, zero as 𝟘, add as _⊕_, mul as _⊗_, neg as ⊖_, add-zero)

@@ -1,5 +1,6 @@
 -- Evaluation is a ring map that is φ on constants and b at the variable.
 --   map-neg            a ring map keeps negatives
+--   eval-bound         eval φ b f is the sum up to any bound of f
 --   eval-split         the value of k + X·f is φ k + b·(the value of f)
 --   eval-zero eval-const eval-X eval-X-mul eval-one eval-add eval-mul
 use mathlib.Core.Path.{_≡_, refl, sym, _∙_, ap, ap₂, fun-ext}
@@ -10,11 +11,13 @@ use Rattle.algebra.specs.Ring.{CommRing}
 use Rattle.algebra.proofs.Laws.{mul-zero, zero-add, zero-mul, neg-unique}
 use Rattle.algebra.proofs.Norm.{nil}
 use Rattle.algebra.proofs.Solve.{_⊞_, _⊠_, solve}
-use Rattle.polynomial.specs.Series.{Series, tail}
-use Rattle.polynomial.specs.Bounds.{Bound, bound-add, bound-more}
+use Rattle.series.specs.Series.{Series, tail, Bound}
+use Rattle.series.proofs.Bounds.{bound-add, bound-more}
 use Rattle.polynomial.specs.Poly.{Poly, coef, const, X, finite}
-use Rattle.polynomial.specs.RingMap.{RingMap}
-use Rattle.polynomial.specs.Eval.{horner, eval, eval-bound}
+use Rattle.algebra.specs.RingMap.{RingMap}
+use Rattle.polynomial.specs.Eval.{value, eval}
+use Rattle.series.specs.Value.{horner}
+use Rattle.series.proofs.Value.{horner-same}
 use Rattle.polynomial.proofs.Coef.{coef-zero, coef-add, coef-split-head, coef-split-next, const-zero, const-one, const-mul}
 use Rattle.polynomial.proofs.Induct.{induct}
 
@@ -27,6 +30,10 @@ module _ {A B : CommRing} (φ : RingMap A B) (b : B .Car) where
 
   infixl 60 _⊕_ _+ₚ_
   infixl 70 _⊗_ _·ₚ_
+  pub eval-bound : (f : Pol) (n : ℕ) → Bound A (coef A f) n → eval φ b f ≡ horner φ b (coef A f) n
+  unfolding eval
+  eval-bound f n h = ∥∥₁-elim (value φ b f .1) (B .isSet _ _) (λ x. x .1 .1 ∙ horner-same φ b (x .0) n (coef A f) (x .1 .0) h)
+
   horner-add : (n : ℕ) (a c : Series A) → horner φ b (λ i. A .add (a i) (c i)) n ≡ horner φ b a n ⊕ horner φ b c n
   unfolding horner
   horner-add zero a c = sym (B .add-zero 𝟘)
@@ -39,9 +46,9 @@ module _ {A B : CommRing} (φ : RingMap A B) (b : B .Car) where
     where
       go : (n : ℕ) → Bound A (coef A f) n → Bound A (coef A g) n → eval φ b (f +ₚ g) ≡ eval φ b f ⊕ eval φ b g
       go n p q =
-          eval-bound φ b (f +ₚ g) n (λ i h. coef-add A f g i ∙ bound-add A (coef A f) (coef A g) n p q i h)
+          eval-bound (f +ₚ g) n (λ i h. coef-add A f g i ∙ bound-add A (coef A f) (coef A g) n p q i h)
           ∙ ap (λ a. horner φ b a n) (fun-ext (coef-add A f g)) ∙ horner-add n (coef A f) (coef A g)
-          ∙ sym (ap₂ _⊕_ (eval-bound φ b f n p) (eval-bound φ b g n q))
+          ∙ sym (ap₂ _⊕_ (eval-bound f n p) (eval-bound g n q))
 
   horner-next : (a : Series A) (n : ℕ) → horner φ b a (suc n) ≡ φ .map (a zero) ⊕ b ⊗ horner φ b (tail A a) n
   unfolding horner
@@ -56,12 +63,12 @@ module _ {A B : CommRing} (φ : RingMap A B) (b : B .Car) where
 
       go : (n : ℕ) → Bound A (coef A f) n → eval φ b (const A k +ₚ X A ·ₚ f) ≡ φ .map k ⊕ b ⊗ eval φ b f
       go n p =
-          eval-bound φ b _ (suc n) (bounded n p) ∙ horner-next _ n
-          ∙ ap₂ (λ u v. φ .map u ⊕ b ⊗ v) (coef-split-head A k f) (ap (λ a. horner φ b a n) (fun-ext (coef-split-next A k f)) ∙ sym (eval-bound φ b f n p))
+          eval-bound _ (suc n) (bounded n p) ∙ horner-next _ n
+          ∙ ap₂ (λ u v. φ .map u ⊕ b ⊗ v) (coef-split-head A k f) (ap (λ a. horner φ b a n) (fun-ext (coef-split-next A k f)) ∙ sym (eval-bound f n p))
 
   pub eval-zero : eval φ b 𝟎 ≡ 𝟘
   unfolding horner
-  eval-zero = eval-bound φ b 𝟎 zero (λ i h. coef-zero A i)
+  eval-zero = eval-bound 𝟎 zero (λ i h. coef-zero A i)
 
   pub eval-const : (k : A .Car) → eval φ b (const A k) ≡ φ .map k
   eval-const k =

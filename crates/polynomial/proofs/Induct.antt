@@ -8,7 +8,7 @@ use mathlib.Core.Logic.{∥∥₁-elim}
 use Prim.Native.Nat.{ℕ, zero, suc}
 use native.Mathlib.Omega.{arith}
 use Rattle.algebra.specs.Ring.{CommRing}
-use Rattle.polynomial.specs.Bounds.{Bound}
+use Rattle.series.specs.Series.{Bound}
 use Rattle.polynomial.specs.Poly.{Poly, coef, poly-path, const, X, rest, finite}
 use Rattle.polynomial.proofs.Coef.{coef-zero, coef-rest, split}
 

@@ -9,12 +9,11 @@ use mathlib.Core.Logic.{_↔_}
 use Rattle.algebra.specs.Ring.{CommRing}
 use Rattle.algebra.proofs.Laws.{zero-add, mul-zero}
 use Rattle.polynomial.specs.Poly.{Poly, X}
-use Rattle.polynomial.specs.RingMap.{RingMap}
+use Rattle.algebra.specs.RingMap.{RingMap}
 use Rattle.polynomial.specs.Eval.{eval}
-use Rattle.polynomial.specs.Cubic.{cubic, quadratic, Divided}
+use Rattle.polynomial.proofs.Cubic.{cubic, quadratic, quadratic-zero}
+use Rattle.polynomial.proofs.Division.{Divided, divide}
 use Rattle.polynomial.proofs.Eval.{eval-add, eval-mul, eval-const, eval-X}
-use Rattle.polynomial.proofs.Cubic.{quadratic-zero}
-use Rattle.polynomial.proofs.Division.{divide}
 
 module _ {A B : CommRing} (φ : RingMap A B) (b : B .Car) where
   open CommRing B using (zero as 𝟘, add as _⊕_, mul as _⊗_)

@@ -12,9 +12,9 @@ use mathlib.Core.Logic.{∥∥₁-prop}
 use mathlib.Core.HLevel.{Σ-prop-path, Σ-set, prop→set, →-set}
 use Prim.Native.Nat.{ℕ, zero}
 use Rattle.algebra.specs.Ring.{CommRing}
-use Rattle.polynomial.specs.Series.{Series, tail, product, constant, shift}
-use Rattle.polynomial.specs.SeriesLaws.{product-comm, product-assoc, product-one, product-add}
-use Rattle.polynomial.specs.Bounds.{Finite, finite-add, finite-neg, finite-product, finite-constant, finite-shift, finite-tail}
+use Rattle.series.specs.Series.{Finite, Series, tail, product, constant, shift}
+use Rattle.series.proofs.Product.{product-comm, product-assoc, product-one, product-add}
+use Rattle.series.proofs.Bounds.{finite-add, finite-neg, finite-product, finite-constant, finite-shift, finite-tail}
 
 module _ (A : CommRing) where
   abbrev pub Polynomial : Type 0

@@ -14,8 +14,8 @@ use Rattle.field.specs.Residue.{Z, el}
 use Rattle.field.specs.Element.{el-zero, el-one}
 use Rattle.ideal.specs.Poles.{largest-gap, IsGap}
 use Rattle.curve.specs.Curve.{Curve, Coordinate}
-use Rattle.curve.specs.Monomial.{coefficient, power, monomial, mono, twist}
-use Rattle.curve.specs.Filtration.{Below, coefficient-below}
+use Rattle.curve.specs.Monomial.{coefficient, power, monomial, mono, twist, Below}
+use Rattle.curve.proofs.Filtration.{coefficient-below}
 use Rattle.vector.specs.Vector.{Vec, Top, at, res, row, element, width}
 use Rattle.vector.specs.Contract.{RowsOf}
 use Rattle.vector.proofs.Loop.{vec-set, zeros-at}

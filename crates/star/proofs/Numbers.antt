@@ -13,7 +13,7 @@ use Rattle.field.specs.Contract.{Is}
 use Rattle.ideal.specs.Poles.{largest-gap}
 use Rattle.curve.specs.Curve.{Curve, Coordinate}
 use Rattle.curve.specs.Monomial.{mono, twist}
-use Rattle.curve.specs.Lead.{twist-one, twist-turn}
+use Rattle.curve.proofs.Lead.{twist-one, twist-turn}
 use Rattle.vector.specs.Vector.{res, width}
 use Rattle.vector.specs.Contract.{RowsOf}
 use Rattle.star.specs.Functional.{apply}

@@ -18,9 +18,9 @@ use Rattle.ideal.proofs.Every.{Every}
 use Rattle.ideal.proofs.Leads.{Lead}
 use Rattle.ideal.proofs.Gaps.{pole-intro, pole-large}
 use Rattle.curve.specs.Curve.{Curve, Coordinate, x, y, constant}
-use Rattle.curve.specs.Monomial.{coefficient, mono, twist}
-use Rattle.curve.specs.Filtration.{Below, coefficient-below}
-use Rattle.curve.proofs.Monic.{monic-coefficient}
+use Rattle.curve.specs.Monomial.{coefficient, mono, twist, Below}
+use Rattle.curve.proofs.Filtration.{coefficient-below}
+use Rattle.poles.proofs.Monic.{monic-coefficient}
 use Rattle.divisor.specs.Kind.{Kind, code, k0, k11, k21, k22, k31, polynomials}
 use Rattle.divisor.proofs.Monomials.{mono-x, mono-y, mono-xx, mono-xy, mono-yy}
 use Rattle.divisor.proofs.Star.{Matched, star-recognised}

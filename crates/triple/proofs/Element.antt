@@ -20,9 +20,10 @@ use Rattle.ideal.specs.Poles.{IsPole, Poles, HasPole, Monic}
 use Rattle.ideal.proofs.Span.{InX, inx-constant, inx-x, inx-one}
 use Rattle.curve.specs.Curve.{Curve, x, y, constant}
 use Rattle.curve.specs.Monomial.{coefficient, power, monomial, mono}
-use Rattle.curve.specs.Filtration.{coefficient-below}
-use Rattle.curve.specs.Poles.{poles, below-constant}
-use Rattle.curve.proofs.Monic.{coefficient-has-pole, has-pole-coefficient, coefficient-monic}
+use Rattle.curve.proofs.Filtration.{coefficient-below}
+use Rattle.poles.specs.Poles.{poles}
+use Rattle.curve.proofs.Poles.{below-constant}
+use Rattle.poles.proofs.Monic.{coefficient-has-pole, has-pole-coefficient, coefficient-monic}
 use Rattle.vector.specs.Vector.{Vec, Top, at, element, x-to}
 use Rattle.vector.proofs.Loop.{gap-zero}
 use Rattle.vector.proofs.Element.{element-coefficient}

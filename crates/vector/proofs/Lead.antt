@@ -18,7 +18,7 @@ use Rattle.field.specs.Inverse.{inverse}
 use Rattle.field.specs.Field.{F, prime-large, inverse-unique}
 use Rattle.field.specs.Contract.{Is}
 use Rattle.curve.specs.Curve.{Curve, Coordinate, constant}
-use Rattle.curve.specs.Coefficient.{constant-one, constant-neg, constant-mul}
+use Rattle.curve.proofs.Coefficient.{constant-one, constant-neg, constant-mul}
 use Rattle.vector.specs.Vector.{Vec, Top, at, res, element, x-to, scalar}
 use Rattle.vector.specs.Contract.{Added, ClearAsked, Cleared, MonicAsked, MadeMonic, Scaled}
 use Rattle.vector.proofs.Loop.{gap-zero, set-cases, vec-set}

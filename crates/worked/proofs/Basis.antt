@@ -28,8 +28,8 @@ use Rattle.ideal.proofs.Degree.{one-nonzero}
 use Rattle.ideal.proofs.Span.{nought, Span}
 use Rattle.curve.specs.Curve as K
 use Rattle.curve.specs.Curve.{Curve, Coordinate, constant}
-use Rattle.curve.specs.Coefficient.{constant-zero, constant-one}
-use Rattle.curve.specs.Poles.{poles}
+use Rattle.curve.proofs.Coefficient.{constant-zero, constant-one}
+use Rattle.poles.specs.Poles.{poles}
 use Rattle.divisor.specs.Kind.{Kind, k0, k11, k21, k22, k31, polynomials, remaining, IdealOf, MadeOf, IsBasis}
 use Rattle.divisor.proofs.Table.{class-by}
 use Rattle.divisor.proofs.Members.{member, members}

@@ -30,9 +30,9 @@ use Rattle.ideal.proofs.Degree.{one-pole, neg-one-constant}
 use Rattle.ideal.proofs.Span.{InX, nought, inx-sum, inx-scale, inx-x, inx-constant, inx-mul, inx-one}
 use Rattle.curve.specs.Curve as K
 use Rattle.curve.specs.Curve.{Curve, Coordinate, constant, in-x, ascending, at}
-use Rattle.curve.specs.Coefficient.{at-zero}
-use Rattle.curve.specs.Poles.{poles}
-use Rattle.nonsingular.specs.Normal.{of-parts, over-x, in-x-zero, in-x-add, in-x-mul}
+use Rattle.curve.proofs.Coefficient.{at-zero, in-x-zero, in-x-add, in-x-mul}
+use Rattle.poles.specs.Poles.{poles}
+use Rattle.nonsingular.specs.Normal.{of-parts, over-x}
 use Rattle.nonsingular.specs.Derivative.{twice, thrice, four-times, derivative-x, derivative-y}
 use Rattle.nonsingular.proofs.Quotient.{normal-quadratic, part-0, part-1, part-2}
 use Rattle.nonsingular.proofs.Derivative.{coef-ascending}

@@ -28,7 +28,7 @@ use Rattle.ideal.proofs.Generated.{generated-each, generated-in, products-sourc
 use Rattle.ideal.proofs.Colon.{colon-ideal, colon-same}
 use Rattle.curve.specs.Curve as K
 use Rattle.curve.specs.Curve.{Curve, Coordinate, constant}
-use Rattle.curve.specs.Poles.{poles}
+use Rattle.poles.specs.Poles.{poles}
 use Rattle.divisor.specs.Kind.{Kind, k0, k11, k21, k22, k31, polynomials, IdealOf, IsBasis}
 use Rattle.divisor.proofs.Table.{degree, remaining-poles, kind-by, class-by}
 use Rattle.divisor.proofs.Members.{member, member-monic}

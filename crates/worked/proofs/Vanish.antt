@@ -23,7 +23,7 @@ use Rattle.field.specs.Residue.{Z, el}
 use Rattle.field.specs.Element.{el-zero, el-one, el-add, el-self}
 use Rattle.curve.specs.Curve as K
 use Rattle.curve.specs.Curve.{Curve, Coordinate, constant}
-use Rattle.curve.specs.Coefficient.{constant-zero, constant-one, constant-add}
+use Rattle.curve.proofs.Coefficient.{constant-zero, constant-one, constant-add}
 use Rattle.curve.proofs.Equation.{F-at, curve-equation}
 
 abbrev pub y : E

@@ -4,9 +4,10 @@
 --   product a b        the product: (ab)₀ = a₀·b₀ and (ab)ₙ₊₁ = a₀·bₙ₊₁ + ((tail a)·b)ₙ
 --   constant k         k, 0, 0, …
 --   shift a            the variable times a: 0, a₀, a₁, …
--- The clauses of these as equations, for rewriting: product-head, product-next, constant-head, constant-next, shift-next.
-use mathlib.Core.Path.{_≡_, refl}
-use Prim.Native.Nat.{ℕ, zero, suc}
+--   Bound a n          the coefficients of a are 0 from n on
+--   Finite a           a has some bound; a proposition
+use mathlib.Core.Path.{_≡_}
+use Prim.Native.Nat.{ℕ, zero, suc, _≤_}
 use Rattle.algebra.specs.Ring.{CommRing}
 
 module _ (A : CommRing) where
@@ -32,22 +33,8 @@ module _ (A : CommRing) where
   shift a zero = 𝟘
   shift a (suc n) = a n
 
-  pub product-head : (a b : Series) → product a b zero ≡ a zero ⊗ b zero
-  unfolding product
-  product-head a b = refl
+  abbrev pub Bound : Series → ℕ → Type 0
+  Bound a n = (i : ℕ) → n ≤ i → a i ≡ 𝟘
 
-  pub product-next : (a b : Series) (n : ℕ) → product a b (suc n) ≡ a zero ⊗ b (suc n) ⊕ product (tail a) b n
-  unfolding product
-  product-next a b n = refl
-
-  pub constant-head : (k : Car) → constant k zero ≡ k
-  unfolding constant
-  constant-head k = refl
-
-  pub constant-next : (k : Car) (n : ℕ) → constant k (suc n) ≡ 𝟘
-  unfolding constant
-  constant-next k n = refl
-
-  pub shift-next : (a : Series) (n : ℕ) → shift a (suc n) ≡ a n
-  unfolding shift
-  shift-next a n = refl
+  abbrev pub Finite : Series → Type 0
+  Finite a = ∥ ((n : ℕ) × Bound a n) ∥₁

@@ -1,14 +1,40 @@
 -- The laws of the product of power series, each at every index, by induction on the index.
+--   product-head product-next constant-head constant-next shift-next     the clauses of the definitions as equations, for rewriting
 --   product-next′          the recursion from the other side: (ab)ₙ₊₁ = aₙ₊₁·b₀ + (a·tail b)ₙ
 --   product-comm product-assoc product-one product-add add-product       the ring laws
 --   product-scale          (k·a)·b = k·(a·b)
 --   constant-product       the constant k times b is k·b
 --   zero-product           a series of zeros times b is zero
-use mathlib.Core.Path.{_≡_, sym, _∙_, ap, ap₂}
+use mathlib.Core.Path.{_≡_, refl, sym, _∙_, ap, ap₂}
 use Prim.Native.Nat.{ℕ, zero, suc}
 use Rattle.algebra.specs.Ring.{CommRing}
 use Rattle.algebra.proofs.Laws.{add-left-comm, swap-add, zero-mul}
-use Rattle.polynomial.specs.Series.{Series, tail, product, constant, product-head, product-next, constant-head, constant-next}
+use Rattle.series.specs.Series.{Series, tail, product, constant, shift}
+
+module _ (A : CommRing) where
+  open CommRing A using (Car, zero as 𝟘, add as _⊕_, mul as _⊗_)
+
+  infixl 60 _⊕_
+  infixl 70 _⊗_
+  pub product-head : (a b : Series A) → product A a b zero ≡ a zero ⊗ b zero
+  unfolding product
+  product-head a b = refl
+
+  pub product-next : (a b : Series A) (n : ℕ) → product A a b (suc n) ≡ a zero ⊗ b (suc n) ⊕ product A (tail A a) b n
+  unfolding product
+  product-next a b n = refl
+
+  pub constant-head : (k : Car) → constant A k zero ≡ k
+  unfolding constant
+  constant-head k = refl
+
+  pub constant-next : (k : Car) (n : ℕ) → constant A k (suc n) ≡ 𝟘
+  unfolding constant
+  constant-next k n = refl
+
+  pub shift-next : (a : Series A) (n : ℕ) → shift A a (suc n) ≡ a n
+  unfolding shift
+  shift-next a n = refl
 
 module _ (A : CommRing) where
   open CommRing A using (Car, zero as 𝟘, one as 𝟙, add as _⊕_, mul as _⊗_, add-comm, add-assoc, add-zero, mul-comm, mul-assoc, mul-one, mul-add)

@@ -1,4 +1,5 @@
 -- The components of sums and products in A[y] modulo a monic cubic y³ + t2·y² + t1·y + t0.
+--   normal-path           elements with the same three components are equal
 --   component-zero component-add component-neg                   of the ring's operations
 --   component-triple-j component-embed-j                         of elements given by components
 --   component-scale       of an element of A times g: component j (a·g) = a·(component j g)
@@ -8,30 +9,10 @@
 --   spread                g = g0 + g1·y + g2·y²
 use mathlib.Core.Path.{_≡_, refl, sym, _∙_, ap}
 use Prim.Native.Nat.{ℕ, zero, suc}
-use Rattle.algebra.specs.Ring.{CommRing, ops}
-use Rattle.algebra.proofs.Norm.{E-ops, nil, unit}
-use Rattle.algebra.proofs.Solve.{solve, _⊞_, _⊠_, ⊟_}
+use Rattle.algebra.specs.Ring.{CommRing}
 use Rattle.algebra.proofs.Laws as L
-use Rattle.curve.specs.CubicLaws.{normal-form, product}
-use Rattle.curve.specs.Cubic.{Cubic, triple, component, embed, y, normal-path}
-
-scale-0 : (A : CommRing) (t0 t1 t2 a r0 r1 r2 : A .Car) → (product (ops A) (normal-form t0 t1 t2) (normal-form a (A .zero) (A .zero)) (normal-form r0 r1 r2)) .r0 ≡ A .mul a r0
-scale-0 A = solve A 7 (λ t0 t1 t2 a r0 r1 r2. (product E-ops (normal-form t0 t1 t2) (normal-form a nil nil) (normal-form r0 r1 r2)) .r0) (λ t0 t1 t2 a r0 r1 r2. a ⊠ r0) tt
-
-scale-1 : (A : CommRing) (t0 t1 t2 a r0 r1 r2 : A .Car) → (product (ops A) (normal-form t0 t1 t2) (normal-form a (A .zero) (A .zero)) (normal-form r0 r1 r2)) .r1 ≡ A .mul a r1
-scale-1 A = solve A 7 (λ t0 t1 t2 a r0 r1 r2. (product E-ops (normal-form t0 t1 t2) (normal-form a nil nil) (normal-form r0 r1 r2)) .r1) (λ t0 t1 t2 a r0 r1 r2. a ⊠ r1) tt
-
-scale-2 : (A : CommRing) (t0 t1 t2 a r0 r1 r2 : A .Car) → (product (ops A) (normal-form t0 t1 t2) (normal-form a (A .zero) (A .zero)) (normal-form r0 r1 r2)) .r2 ≡ A .mul a r2
-scale-2 A = solve A 7 (λ t0 t1 t2 a r0 r1 r2. (product E-ops (normal-form t0 t1 t2) (normal-form a nil nil) (normal-form r0 r1 r2)) .r2) (λ t0 t1 t2 a r0 r1 r2. a ⊠ r2) tt
-
-by-y-0 : (A : CommRing) (t0 t1 t2 r0 r1 r2 : A .Car) → (product (ops A) (normal-form t0 t1 t2) (normal-form (A .zero) (A .one) (A .zero)) (normal-form r0 r1 r2)) .r0 ≡ A .neg (A .mul t0 r2)
-by-y-0 A = solve A 6 (λ t0 t1 t2 r0 r1 r2. (product E-ops (normal-form t0 t1 t2) (normal-form nil unit nil) (normal-form r0 r1 r2)) .r0) (λ t0 t1 t2 r0 r1 r2. ⊟ (t0 ⊠ r2)) tt
-
-by-y-1 : (A : CommRing) (t0 t1 t2 r0 r1 r2 : A .Car) → (product (ops A) (normal-form t0 t1 t2) (normal-form (A .zero) (A .one) (A .zero)) (normal-form r0 r1 r2)) .r1 ≡ A .add r0 (A .neg (A .mul t1 r2))
-by-y-1 A = solve A 6 (λ t0 t1 t2 r0 r1 r2. (product E-ops (normal-form t0 t1 t2) (normal-form nil unit nil) (normal-form r0 r1 r2)) .r1) (λ t0 t1 t2 r0 r1 r2. r0 ⊞ ⊟ (t1 ⊠ r2)) tt
-
-by-y-2 : (A : CommRing) (t0 t1 t2 r0 r1 r2 : A .Car) → (product (ops A) (normal-form t0 t1 t2) (normal-form (A .zero) (A .one) (A .zero)) (normal-form r0 r1 r2)) .r2 ≡ A .add r1 (A .neg (A .mul t2 r2))
-by-y-2 A = solve A 6 (λ t0 t1 t2 r0 r1 r2. (product E-ops (normal-form t0 t1 t2) (normal-form nil unit nil) (normal-form r0 r1 r2)) .r2) (λ t0 t1 t2 r0 r1 r2. r1 ⊞ ⊟ (t2 ⊠ r2)) tt
+use Rattle.algebra.proofs.Cubic.{normal-eq, scale-0, scale-1, scale-2, by-y-0, by-y-1, by-y-2}
+use Rattle.curve.specs.Cubic.{Cubic, triple, component, embed, y}
 
 module _ (A : CommRing) (t0 t1 t2 : A .Car) where
   open CommRing A using (Car, zero as 𝟘, one as 𝟙, add as _+ₐ_, mul as _·ₐ_, neg as -ₐ_)
@@ -48,6 +29,10 @@ module _ (A : CommRing) (t0 t1 t2 : A .Car) where
 
   abbrev pub 𝕪 : El
   𝕪 = y A t0 t1 t2
+
+  pub normal-path : {g h : El} → part 0 g ≡ part 0 h → part 1 g ≡ part 1 h → part 2 g ≡ part 2 h → g ≡ h
+  unfolding Cubic component
+  normal-path e0 e1 e2 = normal-eq e0 e1 e2
 
   pub component-zero : (j : ℕ) → part j 𝟎 ≡ 𝟘
   unfolding Cubic component
@@ -127,15 +112,15 @@ module _ (A : CommRing) (t0 t1 t2 : A .Car) where
 
   pub embed-add : (a b : Car) → emb (a +ₐ b) ≡ emb a ⊕ emb b
   embed-add a b =
-      normal-path A t0 t1 t2 (simp (component-add, component-embed-0)) (simp (component-add, component-embed-1, A .add-zero)) (simp (component-add, component-embed-2, A .add-zero))
+      normal-path (simp (component-add, component-embed-0)) (simp (component-add, component-embed-1, A .add-zero)) (simp (component-add, component-embed-2, A .add-zero))
 
   pub embed-neg : (a : Car) → emb (-ₐ a) ≡ ⊖ emb a
   embed-neg a =
-      normal-path A t0 t1 t2 (simp (component-neg, component-embed-0)) (simp (component-neg, component-embed-1, L.neg-zero)) (simp (component-neg, component-embed-2, L.neg-zero))
+      normal-path (simp (component-neg, component-embed-0)) (simp (component-neg, component-embed-1, L.neg-zero)) (simp (component-neg, component-embed-2, L.neg-zero))
 
   pub embed-mul : (a b : Car) → emb (a ·ₐ b) ≡ emb a ⊗ emb b
   embed-mul a b =
-      normal-path A t0 t1 t2 (simp (component-scale, component-embed-0)) (simp (component-scale, component-embed-1, L.mul-zero)) (simp (component-scale, component-embed-2, L.mul-zero))
+      normal-path (simp (component-scale, component-embed-0)) (simp (component-scale, component-embed-1, L.mul-zero)) (simp (component-scale, component-embed-2, L.mul-zero))
 
   triple-y : 𝕪 ≡ triple A t0 t1 t2 𝟘 𝟙 𝟘
   unfolding y
@@ -152,13 +137,13 @@ module _ (A : CommRing) (t0 t1 t2 : A .Car) where
 
   pub y-squared : 𝕪 ⊗ 𝕪 ≡ triple A t0 t1 t2 𝟘 𝟘 𝟙
   y-squared =
-      normal-path A t0 t1 t2 (simp (component-y-0, component-triple-0, y-2, L.mul-zero, L.neg-zero)) (simp (component-y-1, component-triple-1, y-0, y-2, L.mul-zero, L.neg-zero, A .add-zero))
+      normal-path (simp (component-y-0, component-triple-0, y-2, L.mul-zero, L.neg-zero)) (simp (component-y-1, component-triple-1, y-0, y-2, L.mul-zero, L.neg-zero, A .add-zero))
       (simp (component-y-2, component-triple-2, y-1, y-2, L.mul-zero, L.neg-zero, A .add-zero))
 
   pub y-cubed : 𝕪 ⊗ (𝕪 ⊗ 𝕪) ≡ ⊖ (emb t2 ⊗ (𝕪 ⊗ 𝕪) ⊕ emb t1 ⊗ 𝕪 ⊕ emb t0)
   y-cubed =
       rw y-squared
-      (normal-path A t0 t1 t2
+      (normal-path
       (simp (component-y-0, component-triple-0, component-triple-2, component-neg, component-add, component-scale, component-embed-0, y-0, L.mul-zero, L.zero-add, A .mul-one))
       (simp (component-y-1, component-triple-0, component-triple-1, component-triple-2, component-neg, component-add, component-scale, component-embed-1, y-1, L.mul-zero, L.zero-add, A .add-zero, A .mul-one))
       (simp (component-y-2, component-triple-1, component-triple-2, component-neg, component-add, component-scale, component-embed-2, y-2, L.mul-zero, L.zero-add, A .add-zero, A .mul-one)))
@@ -166,7 +151,7 @@ module _ (A : CommRing) (t0 t1 t2 : A .Car) where
   pub spread : (g : El) → g ≡ emb (part 0 g) ⊕ emb (part 1 g) ⊗ 𝕪 ⊕ emb (part 2 g) ⊗ (𝕪 ⊗ 𝕪)
   spread g =
       rw y-squared
-      (normal-path A t0 t1 t2
+      (normal-path
       (simp (component-triple-0, component-add, component-scale, component-embed-0, y-0, L.mul-zero, A .add-zero))
       (simp (component-triple-1, component-add, component-scale, component-embed-1, y-1, L.mul-zero, L.zero-add, A .add-zero, A .mul-one))
       (simp (component-triple-2, component-add, component-scale, component-embed-2, y-2, L.mul-zero, L.zero-add, A .mul-one)))

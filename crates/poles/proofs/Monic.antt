@@ -10,13 +10,14 @@ use Rattle.algebra.specs.Ring.{CommRing, Field}
 use Rattle.algebra.proofs.Laws as L
 use Rattle.algebra.proofs.Solve.{solve, _⊞_, ⊟_}
 use Rattle.ideal.specs.Poles.{IsPole, HasPole, Monic}
 use Rattle.curve.specs.Curve.{Curve, Coordinate, constant}
-use Rattle.curve.specs.Coefficient.{constant-one}
-use Rattle.curve.specs.Monomial.{coefficient, mono}
-use Rattle.curve.specs.Term.{coefficient-add}
-use Rattle.curve.specs.Filtration.{Below, below-coefficient, coefficient-below, below-add, below-more}
-use Rattle.curve.specs.Product.{below-mono, coefficient-mono, split}
-use Rattle.curve.specs.Poles.{poles, lead-nonzero}
+use Rattle.curve.proofs.Coefficient.{constant-one}
+use Rattle.curve.specs.Monomial.{coefficient, mono, Below}
+use Rattle.curve.proofs.Term.{coefficient-add}
+use Rattle.curve.proofs.Filtration.{below-coefficient, coefficient-below, below-add, below-more}
+use Rattle.curve.proofs.Product.{below-mono, coefficient-mono, split}
+use Rattle.poles.specs.Poles.{poles}
+use Rattle.curve.proofs.Poles.{lead-nonzero}
 
 module _ (K : Field) (C : Curve (K .ring)) (nonzero : ¬ (C .a0 ≡ K .ring .zero)) where
   open CommRing (K .ring) using (Car, zero as 𝟘, one as 𝟙, add as _+ₖ_)

@@ -14,12 +14,13 @@ use Rattle.algebra.proofs.Laws as L
 use Rattle.algebra.proofs.Solve.{solve, _⊞_, _⊠_, ⊟_}
 use Rattle.ideal.specs.Poles.{IsGap, IsPole}
 use Rattle.curve.specs.Curve.{Curve, Coordinate, x, y, constant, at}
-use Rattle.curve.specs.Coefficient.{at-one-0, at-one-x, at-one-y, constant-zero}
-use Rattle.curve.specs.Pole.{pole, pole-x, pole-y, Located, place, gap, locate, gap-dec}
-use Rattle.curve.specs.Monomial.{coefficient, twist, power, monomial, mono}
-use Rattle.curve.specs.Term.{coefficient-pole, coefficient-gap, coefficient-zero, coefficient-add, coefficient-neg, coefficient-constant-mul}
-use Rattle.curve.specs.Filtration.{Below, below-coefficient, below-zero, below-add, below-neg, below-constant-mul, below-more, below-none, below-step, below-gap}
-use Rattle.curve.specs.Lead.{Top, top-one, top-y, top-y-y, top-x, twist-one}
+use Rattle.curve.proofs.Coefficient.{at-one-0, at-one-x, at-one-y, constant-zero}
+use Rattle.curve.specs.Pole.{pole}
+use Rattle.curve.proofs.Pole.{pole-x, pole-y, Located, place, gap, locate, gap-dec}
+use Rattle.curve.specs.Monomial.{coefficient, twist, power, monomial, mono, Below}
+use Rattle.curve.proofs.Term.{coefficient-pole, coefficient-gap, coefficient-zero, coefficient-add, coefficient-neg, coefficient-constant-mul}
+use Rattle.curve.proofs.Filtration.{below-coefficient, below-zero, below-add, below-neg, below-constant-mul, below-more, below-none, below-step, below-gap}
+use Rattle.curve.proofs.Lead.{Top, top-one, top-y, top-y-y, top-x, twist-one}
 
 module _ {k : CommRing} (C : Curve k) where
   open CommRing k using (Car, zero as 𝟘, one as 𝟙, add as _+ₖ_, mul as _·ₖ_, neg as -ₖ_)

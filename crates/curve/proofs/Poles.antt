@@ -1,10 +1,12 @@
--- The coordinate ring of a curve over a field has pole numbers: the interface on which the theory of ideals rests.
+-- What makes the filtration of the coordinate ring of a curve over a field pole numbers in the sense of crates/ideal.
 --   no-zero-divisors   a product of two nonzero elements of a field is not zero
 --   twist-nonzero      the factor at the top of a product is not zero
 --   below-constant     a constant has no monomial but 1
 --   below-some         every element has a bound of its pole numbers
 --   below-dec          it is decidable whether n is one
---   poles K C nonzero  the pole numbers of the coordinate ring of C, where a0 ≢ 0
+--   lower              a constant multiple of h takes the lead of g away
+--   mono-zero mono-lead            the normal monomials have their pole numbers
+--   below-factor       if the lead of a product drops, that of a factor does
 use mathlib.Core.Path.{_≡_, sym, _∙_, ap}
 use mathlib.Core.Logic.{_⊎_, inl, inr}
 use Prim.Native.Nat.{ℕ, zero, suc, _+_, _%_, _≤_}
@@ -14,15 +16,15 @@ use Rattle.algebra.specs.Ring.{CommRing, Field}
 use Rattle.algebra.proofs.Laws as L
 use Rattle.polynomial.specs.Poly.{coef}
 use Rattle.polynomial.proofs.Bound.{bound}
-use Rattle.ideal.specs.Poles.{Poles, IsPole}
+use Rattle.ideal.specs.Poles.{IsPole}
 use Rattle.curve.specs.Curve.{Curve, Coordinate, constant, part, at}
-use Rattle.curve.specs.Coefficient.{at-constant-x, at-constant-y}
+use Rattle.curve.proofs.Coefficient.{at-constant-x, at-constant-y}
 use Rattle.curve.specs.Pole.{pole}
-use Rattle.curve.specs.Monomial.{coefficient, twist, power, monomial, mono}
-use Rattle.curve.specs.Term.{coefficient-add, coefficient-constant-mul}
-use Rattle.curve.specs.Filtration.{Below, below-coefficient, below-zero, below-add, below-constant-mul, below-more, below-none, below-step, below-gap}
-use Rattle.curve.specs.Lead.{twist-one, twist-turn}
-use Rattle.curve.specs.Product.{below-mono, coefficient-mono, product-below, product-top}
+use Rattle.curve.specs.Monomial.{coefficient, twist, power, monomial, mono, Below}
+use Rattle.curve.proofs.Term.{coefficient-add, coefficient-constant-mul}
+use Rattle.curve.proofs.Filtration.{below-coefficient, below-add, below-constant-mul, below-more, below-step}
+use Rattle.curve.proofs.Lead.{twist-one, twist-turn}
+use Rattle.curve.proofs.Product.{below-mono, coefficient-mono, product-top}
 
 pub no-zero-divisors : (K : Field) (a b : K .ring .Car) → K .ring .mul a b ≡ K .ring .zero → ¬ (a ≡ K .ring .zero) → b ≡ K .ring .zero
 no-zero-divisors K a b e n =
@@ -118,22 +120,3 @@ module _ (K : Field) (C : Curve (K .ring)) where
         go : Dec (coefficient C m g ≡ 𝟘) → Below C m g ⊎ Below C n h
         go (yes e) = inl (below-step C b e)
         go (no u) = inr (below-step C c (no-zero-divisors K (coefficient C m g) (coefficient C n h) z u))
-
-    unfoldable pub poles : Poles (Coordinate C)
-    poles =
-        record {
-          Below = Below C;
-          mono = mono C;
-          below-zero = below-zero C;
-          below-add = λ b c. below-add C b c;
-          below-mono = λ h b. below-more C h b;
-          below-none = λ b. below-none C b;
-          below-some = below-some;
-          below-dec = below-dec;
-          below-gap = λ d b. below-gap C d b;
-          below-mul = λ b c. product-below C b c;
-          below-factor = λ b c d. below-factor b c d;
-          mono-zero = mono-zero;
-          mono-pole = mono-lead;
-          lower = λ b c u. lower b c u;
-        }

@@ -15,12 +15,13 @@ use Rattle.algebra.specs.Ring.{CommRing}
 use Rattle.algebra.proofs.Laws as L
 use Rattle.ideal.specs.Poles.{IsGap}
 use Rattle.curve.specs.Curve.{Curve, Coordinate, x, y, at}
-use Rattle.curve.specs.Back.{back-high, back-vanish, weigh, weigh-vanish}
-use Rattle.curve.specs.Coefficient.{at-y-0, at-y-1, at-y-2}
-use Rattle.curve.specs.Pole.{pole, Located, place, gap, locate}
-use Rattle.curve.specs.Monomial.{coefficient, pick, twist}
-use Rattle.curve.specs.Term.{coefficient-pole, coefficient-gap, coefficient-x-high, pick-true, pick-false}
-use Rattle.curve.specs.Filtration.{Below, below-coefficient, below-more, below-gap, below-x, below-y}
+use Rattle.curve.proofs.Back.{back-high, back-vanish, weigh, weigh-vanish}
+use Rattle.curve.proofs.Coefficient.{at-y-0, at-y-1, at-y-2}
+use Rattle.curve.specs.Pole.{pole}
+use Rattle.curve.proofs.Pole.{Located, place, gap, locate}
+use Rattle.curve.specs.Monomial.{coefficient, pick, twist, Below}
+use Rattle.curve.proofs.Term.{coefficient-pole, coefficient-gap, coefficient-x-high, pick-true, pick-false}
+use Rattle.curve.proofs.Filtration.{below-coefficient, below-more, below-gap, below-x, below-y}
 
 module _ {k : CommRing} (C : Curve k) where
   open CommRing k using (Car, zero as 𝟘, one as 𝟙, add as _+ₖ_, mul as _·ₖ_, neg as -ₖ_)

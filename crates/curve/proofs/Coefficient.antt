@@ -4,7 +4,8 @@
 --   at-constant-mul    of a constant times g
 --   at-x-first at-x-next                 of x·g
 --   at-y-0 at-y-1 at-y-2                 of y·g, with −(t2·y² + t1·y + t0) for y³
---   constant-zero … constant-mul         constants are a subring
+--   in-x-zero in-x-one in-x-add in-x-mul     polynomials in x are a subring
+--   constant-zero … constant-mul         and so are constants
 use mathlib.Core.Path.{_≡_, sym, _∙_, ap}
 use mathlib.Core.List.{[], _∷_}
 use Prim.Native.Nat.{ℕ, zero, suc, _≤_}
@@ -12,10 +13,9 @@ use lib.Dec.{lit≤}
 use Rattle.algebra.specs.Ring.{CommRing}
 use Rattle.polynomial.specs.Poly.{Poly, coef, poly-path, const, X}
 use Rattle.polynomial.proofs.Coef as P
-use Rattle.curve.specs.Cubic as Q
-use Rattle.curve.specs.Component as M
+use Rattle.curve.proofs.Component as M
 use Rattle.curve.specs.Curve.{Curve, t0, t1, t2, Coordinate, y, in-x, x, constant, part, at}
-use Rattle.curve.specs.Back.{weigh, coef-ascending}
+use Rattle.curve.proofs.Back.{weigh, coef-ascending}
 
 module _ {k : CommRing} (C : Curve k) where
   open CommRing k using (Car, zero as 𝟘, one as 𝟙, add as _+ₖ_, mul as _·ₖ_, neg as -ₖ_)
@@ -60,7 +60,7 @@ module _ {k : CommRing} (C : Curve k) where
   pub at-ext : {g h : El} → ((i j : ℕ) → j ≤ 2 → at C i j g ≡ at C i j h) → g ≡ h
   unfolding Coordinate part at
   at-ext e =
-      Q.normal-path k[x] (t0 C) (t1 C) (t2 C) (poly-path k (λ i. e i 0 (lit≤ tt))) (poly-path k (λ i. e i 1 (lit≤ tt))) (poly-path k (λ i. e i 2 (lit≤ tt)))
+      M.normal-path k[x] (t0 C) (t1 C) (t2 C) (poly-path k (λ i. e i 0 (lit≤ tt))) (poly-path k (λ i. e i 1 (lit≤ tt))) (poly-path k (λ i. e i 2 (lit≤ tt)))
 
   coef-t0 : (f : k[x] .Car) (i : ℕ) → coef k (k[x] .mul (t0 C) f) i ≡ weigh k (C .c0 ∷ C .c1 ∷ C .c3 ∷ C .c6 ∷ C .a0 ∷ []) (coef k f) i
   unfolding t0
@@ -94,6 +94,22 @@ module _ {k : CommRing} (C : Curve k) where
       ap (λ f. coef k f i) (M.component-y-2 k[x] (t0 C) (t1 C) (t2 C) g)
       ∙ P.coef-add k _ _ i
       ∙ ap (λ u. at C i 1 g +ₖ u) (P.coef-neg k _ i ∙ ap -ₖ_ (coef-t2 (part C 2 g) i))
+
+  pub in-x-zero : in-x C (k[x] .zero) ≡ 𝟎
+  unfolding Coordinate in-x
+  in-x-zero = M.embed-zero k[x] (t0 C) (t1 C) (t2 C)
+
+  pub in-x-one : in-x C (k[x] .one) ≡ 𝟏
+  unfolding Coordinate in-x
+  in-x-one = M.embed-one k[x] (t0 C) (t1 C) (t2 C)
+
+  pub in-x-add : (f g : k[x] .Car) → in-x C (k[x] .add f g) ≡ in-x C f ⊕ in-x C g
+  unfolding Coordinate in-x
+  in-x-add f g = M.embed-add k[x] (t0 C) (t1 C) (t2 C) f g
+
+  pub in-x-mul : (f g : k[x] .Car) → in-x C (k[x] .mul f g) ≡ in-x C f ⊗ in-x C g
+  unfolding Coordinate in-x
+  in-x-mul f g = M.embed-mul k[x] (t0 C) (t1 C) (t2 C) f g
 
   pub constant-zero : constant C 𝟘 ≡ 𝟎
   unfolding Coordinate in-x constant

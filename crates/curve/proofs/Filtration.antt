@@ -1,6 +1,5 @@
 -- The filtration of the coordinate ring by pole numbers, and what multiplication by x and y does to it.
---   Below n g          every monomial of g has a pole number below n
---   below-coefficient, coefficient-below     the same by coefficients
+--   below-coefficient, coefficient-below     Below n g says that the coefficients of g from n on are 0
 --   below-zero below-add below-neg below-constant-mul below-more below-none      Below n is closed under these
 --   below-gap          there is no monomial at a gap
 --   below-step         Below (n + 1) g and no coefficient at n give Below n g
@@ -15,11 +14,12 @@ use Rattle.algebra.specs.Ring.{CommRing}
 use Rattle.algebra.proofs.Laws as L
 use Rattle.ideal.specs.Poles.{IsGap}
 use Rattle.curve.specs.Curve.{Curve, Coordinate, x, y, constant, at}
-use Rattle.curve.specs.Back.{weigh-vanish}
-use Rattle.curve.specs.Coefficient.{at-ext, at-zero, at-add, at-neg, at-constant-mul, at-x-first, at-x-next, at-y-0, at-y-1, at-y-2}
-use Rattle.curve.specs.Pole.{pole, Located, place, gap, locate}
-use Rattle.curve.specs.Monomial.{coefficient}
-use Rattle.curve.specs.Term.{coefficient-pole, coefficient-gap}
+use Rattle.curve.proofs.Back.{weigh-vanish}
+use Rattle.curve.proofs.Coefficient.{at-ext, at-zero, at-add, at-neg, at-constant-mul, at-x-first, at-x-next, at-y-0, at-y-1, at-y-2}
+use Rattle.curve.specs.Pole.{pole}
+use Rattle.curve.proofs.Pole.{Located, place, gap, locate}
+use Rattle.curve.specs.Monomial.{Below, coefficient}
+use Rattle.curve.proofs.Term.{coefficient-pole, coefficient-gap}
 
 module _ {k : CommRing} (C : Curve k) where
   open CommRing k using (Car, zero as 𝟘, one as 𝟙, add as _+ₖ_, mul as _·ₖ_, neg as -ₖ_)
@@ -28,10 +28,7 @@ module _ {k : CommRing} (C : Curve k) where
   infixl 60 _⊕_ _+ₖ_
   infixl 70 _⊗_ _·ₖ_
   infix 80 ⊖_ -ₖ_
-  pub record Below (n : ℕ) (g : El) : Type 0 where
-    pub vanish : (i j : ℕ) → j ≤ 2 → n ≤ pole i j → at C i j g ≡ 𝟘
-
-  pub below-coefficient : {n : ℕ} {g : El} → Below n g → (m : ℕ) → n ≤ m → coefficient C m g ≡ 𝟘
+  pub below-coefficient : {n : ℕ} {g : El} → Below C n g → (m : ℕ) → n ≤ m → coefficient C m g ≡ 𝟘
   below-coefficient {n} {g} b m h = go (locate m)
     where
       go : Located m → coefficient C m g ≡ 𝟘
@@ -39,42 +36,42 @@ module _ {k : CommRing} (C : Curve k) where
           ap (λ a. coefficient C a g) e ∙ coefficient-pole C i j l g ∙ b .vanish i j l (omega arith)
       go (gap d) = coefficient-gap C m d g
 
-  pub coefficient-below : (n : ℕ) (g : El) → ((m : ℕ) → n ≤ m → coefficient C m g ≡ 𝟘) → Below n g
+  pub coefficient-below : (n : ℕ) (g : El) → ((m : ℕ) → n ≤ m → coefficient C m g ≡ 𝟘) → Below C n g
   coefficient-below n g c =
       record { vanish = λ i j l h. sym (coefficient-pole C i j l g) ∙ c (pole i j) h }
 
-  pub below-zero : (n : ℕ) → Below n 𝟎
+  pub below-zero : (n : ℕ) → Below C n 𝟎
   below-zero n = record { vanish = λ i j l h. at-zero C i j }
 
-  pub below-add : {n : ℕ} {g h : El} → Below n g → Below n h → Below n (g ⊕ h)
+  pub below-add : {n : ℕ} {g h : El} → Below C n g → Below C n h → Below C n (g ⊕ h)
   below-add {n} {g} {h} b c =
       record { vanish = λ i j l m. at-add C i j g h ∙ ap₂ _+ₖ_ (b .vanish i j l m) (c .vanish i j l m) ∙ k .add-zero 𝟘 }
 
-  pub below-neg : {n : ℕ} {g : El} → Below n g → Below n (⊖ g)
+  pub below-neg : {n : ℕ} {g : El} → Below C n g → Below C n (⊖ g)
   below-neg {n} {g} b =
       record { vanish = λ i j l m. at-neg C i j g ∙ ap -ₖ_ (b .vanish i j l m) ∙ L.neg-zero k }
 
-  pub below-constant-mul : (c : Car) {n : ℕ} {g : El} → Below n g → Below n (constant C c ⊗ g)
+  pub below-constant-mul : (c : Car) {n : ℕ} {g : El} → Below C n g → Below C n (constant C c ⊗ g)
   below-constant-mul c {n} {g} b =
       record { vanish = λ i j l m. at-constant-mul C c i j g ∙ ap (λ u. c ·ₖ u) (b .vanish i j l m) ∙ L.mul-zero k c }
 
-  pub below-more : {m n : ℕ} {g : El} → m ≤ n → Below m g → Below n g
+  pub below-more : {m n : ℕ} {g : El} → m ≤ n → Below C m g → Below C n g
   below-more h b = record { vanish = λ i j l u. b .vanish i j l (omega arith) }
 
-  pub below-none : {g : El} → Below 0 g → g ≡ 𝟎
+  pub below-none : {g : El} → Below C 0 g → g ≡ 𝟎
   below-none b = at-ext C (λ i j l. b .vanish i j l (omega arith) ∙ sym (at-zero C i j))
 
-  pub below-step : {n : ℕ} {g : El} → Below (suc n) g → coefficient C n g ≡ 𝟘 → Below n g
+  pub below-step : {n : ℕ} {g : El} → Below C (suc n) g → coefficient C n g ≡ 𝟘 → Below C n g
   below-step {n} {g} b c = record { vanish = λ i j l h. go i j l h (ℕ-discrete n (pole i j)) }
     where
       go : (i j : ℕ) → j ≤ 2 → n ≤ pole i j → Dec (n ≡ pole i j) → at C i j g ≡ 𝟘
       go i j l h (yes e) = sym (coefficient-pole C i j l g) ∙ ap (λ m. coefficient C m g) (sym e) ∙ c
       go i j l h (no e) = b .vanish i j l (omega arith)
 
-  pub below-gap : {n : ℕ} {g : El} → IsGap n → Below (suc n) g → Below n g
+  pub below-gap : {n : ℕ} {g : El} → IsGap n → Below C (suc n) g → Below C n g
   below-gap {n} {g} d b = below-step b (coefficient-gap C n d g)
 
-  pub below-x : {n : ℕ} {g : El} → Below n g → Below (3 + n) (x C ⊗ g)
+  pub below-x : {n : ℕ} {g : El} → Below C n g → Below C (3 + n) (x C ⊗ g)
   below-x {n} {g} b = record { vanish = go }
     where
       go : (i j : ℕ) → j ≤ 2 → 3 + n ≤ pole i j → at C i j (x C ⊗ g) ≡ 𝟘
@@ -84,7 +81,7 @@ module _ {k : CommRing} (C : Curve k) where
   minus-zero : (a b : Car) → a ≡ 𝟘 → b ≡ 𝟘 → a +ₖ -ₖ b ≡ 𝟘
   minus-zero a b e f = cc (e, f, k .add-neg 𝟘)
 
-  pub below-y : {n : ℕ} {g : El} → Below (suc n) g → Below (suc (4 + n)) (y C ⊗ g)
+  pub below-y : {n : ℕ} {g : El} → Below C (suc n) g → Below C (suc (4 + n)) (y C ⊗ g)
   below-y {n} {g} b = record { vanish = go }
     where
       go : (i j : ℕ) → j ≤ 2 → suc (4 + n) ≤ pole i j → at C i j (y C ⊗ g) ≡ 𝟘

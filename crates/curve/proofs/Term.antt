@@ -16,10 +16,11 @@ use Rattle.algebra.proofs.Laws as L
 use Rattle.polynomial.specs.Poly.{Poly, coef}
 use Rattle.polynomial.proofs.Coef as P
 use Rattle.ideal.specs.Poles.{IsGap, IsPole}
-use Rattle.curve.specs.Component as M
+use Rattle.curve.proofs.Component as M
 use Rattle.curve.specs.Curve.{Curve, t0, t1, t2, Coordinate, x, constant, part, at}
-use Rattle.curve.specs.Coefficient.{at-ext, at-zero, at-add, at-neg, at-constant-mul, at-x-first, at-x-next}
-use Rattle.curve.specs.Pole.{pole, x-power, y-power, pole-x, pole-y, Located, place, gap, locate}
+use Rattle.curve.proofs.Coefficient.{at-ext, at-zero, at-add, at-neg, at-constant-mul, at-x-first, at-x-next}
+use Rattle.curve.specs.Pole.{pole, x-power, y-power}
+use Rattle.curve.proofs.Pole.{pole-x, pole-y, Located, place, gap, locate}
 use Rattle.curve.specs.Monomial.{coefficient, pick, vector}
 
 pub pick-true : {A : Type 0} (b : Bool) (u v : A) → T b → pick b u v ≡ u
