@@ -13,7 +13,7 @@ use Rattle.algebra.proofs.Norm.{nil}
 use Rattle.algebra.proofs.Solve.{solve, _⊞_, _⊠_}
 use Rattle.prime.specs.Prime.{Prime}
 use Rattle.field.specs.Residue.{Z, el}
-use Rattle.field.specs.Element.{el-zero}
+use Rattle.field.proofs.Element.{el-zero}
 use Rattle.curve.specs.Curve.{Curve, Coordinate, x, y, constant}
 use Rattle.curve.proofs.Coefficient.{constant-zero}
 use Rattle.curve.specs.Monomial.{mono}

@@ -16,7 +16,7 @@ use Rattle.algebra.proofs.Laws as L
 use Rattle.ideal.specs.Poles.{IsGap, IsPole}
 use Rattle.ideal.proofs.Gaps.{pole-intro}
 use Rattle.field.specs.Residue.{Z, el}
-use Rattle.field.specs.Element.{el-zero, el-one}
+use Rattle.field.proofs.Element.{el-zero, el-one}
 use Rattle.curve.specs.Curve.{Curve, Coordinate, x, y, constant}
 use Rattle.curve.proofs.Coefficient.{constant-one}
 use Rattle.curve.specs.Monomial.{coefficient, mono}

@@ -13,7 +13,7 @@ use lib.ListN.{replicate}
 use Rattle.algebra.specs.Ring.{CommRing}
 use Rattle.algebra.proofs.Laws.{neg-neg, mul-neg}
 use Rattle.field.specs.Residue.{Z, el}
-use Rattle.field.specs.Element.{el-one}
+use Rattle.field.proofs.Element.{el-one}
 use Rattle.field.specs.Contract.{Below₁, Is}
 use Rattle.ideal.specs.Ideal.{Product, ProductOf, SameIdeal, Equivalent}
 use Rattle.ideal.specs.Reduced.{IsStar, IsReduced}

@@ -14,7 +14,8 @@ use lib.ListN.{length, take, drop, length-drop, drop-of-length-le}
 use lib.Seq.{drop-drop, take-length}
 use lib.Dec.{eqb}
 use borrow.Author.Tests.{eq-eqb, ne-eqb}
-use Rattle.field.specs.Field.{F, prime-large}
+use Rattle.prime_field.specs.Field.{F}
+use Rattle.field.proofs.Invert.{prime-large}
 use Rattle.divisor.specs.Kind.{Kind, k0}
 use Rattle.divisor.proofs.Class.{zero-basis}
 use Rattle.layout.specs.Layout.{Bytes, number2}

@@ -13,9 +13,9 @@ use native.Mathlib.Nat.{div-add-mod', mod-lt, add-comm, mul-comm, mul-le-mul-rig
 use native.Mathlib.Omega.{arith}
 use Rattle.prime.specs.Prime.{Prime}
 use Rattle.field.specs.Residue.{Z, el}
-use Rattle.field.specs.Element.{el-mul, el-zero, el-one, el-neg, el-pos, el-same, el-rest}
-use Rattle.field.specs.Inverse.{inverse, inverse-zero}
-use Rattle.field.specs.Field.{prime-large, prime-rest, inverse-unique}
+use Rattle.field.proofs.Element.{el-mul, el-zero, el-one, el-neg, el-pos, el-same, el-rest}
+use Rattle.field.specs.Inverse.{inverse}
+use Rattle.field.proofs.Invert.{inverse-zero, prime-large, prime-rest, inverse-unique}
 use Rattle.field.specs.Contract.{Is}
 
 pub record Turn (p a r0 r1 t0 t1 : ℕ) : Type 0 where

@@ -8,9 +8,9 @@ use native.Mathlib.Nat.{mod-lt, mod-eq-of-lt, zero-mod}
 use native.Mathlib.Omega.{arith}
 use Rattle.prime.specs.Prime.{Prime}
 use Rattle.field.specs.Residue.{Z, el}
-use Rattle.field.specs.Element.{el-add, el-mul, el-zero, el-one, el-neg, el-pos, el-same, el-inj, el-mod}
-use Rattle.field.specs.Inverse.{inverse, inverse-zero}
-use Rattle.field.specs.Field.{prime-large, inverse-unique}
+use Rattle.field.proofs.Element.{el-add, el-mul, el-zero, el-one, el-neg, el-pos, el-same, el-inj, el-mod}
+use Rattle.field.specs.Inverse.{inverse}
+use Rattle.field.proofs.Invert.{inverse-zero, prime-large, inverse-unique}
 use Rattle.field.specs.Contract.{Is}
 use Rattle.field.proofs.Products.{negated}
 

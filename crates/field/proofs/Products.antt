@@ -13,7 +13,7 @@ use native.Mathlib.Omega.{arith}
 use mir.Val.{Fits}
 use mir.Syntax.{w32, w64}
 use Rattle.field.specs.Residue.{Z, el}
-use Rattle.field.specs.Element.{cancel, el-add, el-mul, el-mod, el-zero, el-self}
+use Rattle.field.proofs.Element.{cancel, el-add, el-mul, el-mod, el-zero, el-self}
 use Rattle.field.specs.Contract.{Is}
 
 square : (a b : ℕ) → a < 4294967296 → b < 4294967296 → a * b ≤ 18446744065119617025

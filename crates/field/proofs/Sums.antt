@@ -6,7 +6,7 @@ use mathlib.Core.Path.{_≡_, sym, _∙_, ap}
 use Prim.Native.Nat.{ℕ, _+_, _-_, _≤_, _<_}
 use native.Mathlib.Omega.{arith}
 use Rattle.field.specs.Residue.{Z, el}
-use Rattle.field.specs.Element.{el-add, el-zero, el-self, el-neg, el-sub}
+use Rattle.field.proofs.Element.{el-add, el-zero, el-self, el-neg, el-sub}
 use Rattle.field.specs.Contract.{Is}
 
 -- el (r + p) = el r

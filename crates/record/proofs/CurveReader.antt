@@ -13,8 +13,8 @@ use native.Mathlib.Omega.{arith}
 use Rattle.algebra.specs.Ring.{CommRing}
 use Rattle.prime.specs.Prime.{Prime}
 use Rattle.field.specs.Residue.{Z, el}
-use Rattle.field.specs.Element.{el-one}
-use Rattle.field.specs.Field.{one-not-zero}
+use Rattle.field.proofs.Element.{el-one}
+use Rattle.field.proofs.Invert.{one-not-zero}
 use Rattle.curve.specs.Curve.{Curve}
 use Rattle.nonsingular.specs.Nonsingular.{Nonsingular}
 use Rattle.triple.specs.Equation.{curve-of, Coefficients, IsCube}

@@ -15,7 +15,7 @@ use lib.ListN.{length}
 use Rattle.algebra.specs.Ring.{CommRing, Field}
 use Rattle.prime.specs.Prime.{Prime}
 use Rattle.field.specs.Residue.{Z}
-use Rattle.field.specs.Field.{F}
+use Rattle.prime_field.specs.Field.{F}
 use Rattle.ideal.specs.Ideal.{SameIdeal, Generated, IsIdeal}
 use Rattle.ideal.specs.Reduced.{IsReduced}
 use Rattle.ideal.proofs.Every.{Every}

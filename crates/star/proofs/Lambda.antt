@@ -11,7 +11,7 @@ use lib.ListN.{length, set, replicate}
 use lib.Seq.{getD-set-same, getD-set-other}
 use Rattle.algebra.proofs.Laws as L
 use Rattle.field.specs.Residue.{Z, el}
-use Rattle.field.specs.Element.{el-zero, el-one}
+use Rattle.field.proofs.Element.{el-zero, el-one}
 use Rattle.ideal.specs.Poles.{largest-gap, IsGap}
 use Rattle.curve.specs.Curve.{Curve, Coordinate}
 use Rattle.curve.specs.Monomial.{coefficient, power, monomial, mono, twist, Below}

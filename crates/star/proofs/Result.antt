@@ -10,8 +10,9 @@ use native.Mathlib.Omega.{arith}
 use lib.ListN.{replicate}
 use Rattle.algebra.specs.Ring.{CommRing, Field}
 use Rattle.field.specs.Residue.{Z, el}
-use Rattle.field.specs.Element.{el-zero}
-use Rattle.field.specs.Field.{F, prime-large}
+use Rattle.field.proofs.Element.{el-zero}
+use Rattle.prime_field.specs.Field.{F}
+use Rattle.field.proofs.Invert.{prime-large}
 use Rattle.ideal.specs.Ideal.{Colon}
 use Rattle.ideal.specs.Poles.{largest-gap, IsPole}
 use Rattle.ideal.proofs.Every.{Every}

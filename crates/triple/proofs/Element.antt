@@ -13,9 +13,9 @@ use native.Mathlib.Omega.{arith}
 use Rattle.algebra.specs.Ring.{CommRing, Field}
 use Rattle.algebra.proofs.Laws as L
 use Rattle.field.specs.Residue.{Z, el}
-use Rattle.field.specs.Element.{el-zero, el-one, el-pos, el-inj}
-use Rattle.field.specs.Field.{F}
-use Rattle.field.specs.Inverse.{lt-of-ne}
+use Rattle.field.proofs.Element.{el-zero, el-one, el-pos, el-inj}
+use Rattle.prime_field.specs.Field.{F}
+use Rattle.field.proofs.Invert.{lt-of-ne}
 use Rattle.ideal.specs.Poles.{IsPole, Poles, HasPole, Monic}
 use Rattle.ideal.proofs.Span.{InX, inx-constant, inx-x, inx-one}
 use Rattle.curve.specs.Curve.{Curve, x, y, constant}

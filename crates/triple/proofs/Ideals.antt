@@ -12,7 +12,7 @@ use native.Mathlib.Decide.{decLe, decLt}
 use lib.ListN.{length}
 use Rattle.algebra.specs.Ring.{CommRing}
 use Rattle.algebra.proofs.Laws.{ring}
-use Rattle.field.specs.Field.{F}
+use Rattle.prime_field.specs.Field.{F}
 use Rattle.ideal.specs.Ideal.{IsIdeal, Generated, SameIdeal}
 use Rattle.ideal.specs.Poles.{Poles, HasPole}
 use Rattle.ideal.specs.Reduced.{Least}

@@ -16,7 +16,7 @@ use borrow.Author.Tests.{not-true, not-false}
 use Rattle.algebra.specs.Ring.{CommRing}
 use Rattle.algebra.proofs.Laws as L
 use Rattle.field.specs.Residue.{Z, el}
-use Rattle.field.specs.Element.{el-zero, el-one, el-inj, el-pos}
+use Rattle.field.proofs.Element.{el-zero, el-one, el-inj, el-pos}
 use Rattle.ideal.proofs.Span.{span-nil, span-sum, span-times, inx-mul}
 use Rattle.curve.specs.Curve.{Curve, Coordinate, y}
 use Rattle.curve.specs.Monomial.{coefficient}

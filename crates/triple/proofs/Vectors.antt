@@ -15,7 +15,7 @@ use lib.Seq.{getD-append-add}
 use Rattle.algebra.specs.Ring.{CommRing}
 use Rattle.algebra.proofs.Laws as L
 use Rattle.field.specs.Residue.{Z, el}
-use Rattle.field.specs.Element.{el-zero, el-one}
+use Rattle.field.proofs.Element.{el-zero, el-one}
 use Rattle.field.specs.Contract.{Is}
 use Rattle.ideal.proofs.Every.{Every}
 use Rattle.curve.specs.Curve.{Curve, Coordinate, y}

@@ -15,7 +15,7 @@ use Rattle.algebra.specs.Ring.{CommRing}
 use Rattle.algebra.proofs.Laws as L
 use Rattle.ideal.specs.Poles.{IsPole}
 use Rattle.field.specs.Residue.{Z, el}
-use Rattle.field.specs.Element.{el-zero}
+use Rattle.field.proofs.Element.{el-zero}
 use Rattle.curve.specs.Curve.{Curve, Coordinate, constant}
 use Rattle.curve.specs.Curve as K
 use Rattle.curve.specs.Pole.{pole}

@@ -12,7 +12,7 @@ use lib.ListN.{length}
 use Rattle.algebra.specs.Ring.{CommRing}
 use Rattle.ideal.specs.Poles.{IsPole}
 use Rattle.field.specs.Residue.{Z, el}
-use Rattle.field.specs.Element.{el-zero}
+use Rattle.field.proofs.Element.{el-zero}
 use Rattle.curve.specs.Curve.{Curve, Coordinate}
 use Rattle.curve.specs.Curve as K
 use Rattle.curve.specs.Pole.{pole}

@@ -20,7 +20,7 @@ use Rattle.algebra.proofs.Sound.{number, head, tail}
 use Rattle.algebra.proofs.Solve.{_⊞_, _⊠_}
 use Rattle.prime.specs.Prime.{Prime}
 use Rattle.field.specs.Residue.{Z, el}
-use Rattle.field.specs.Field as field
+use Rattle.prime_field.specs.Field as field
 use Rattle.ideal.specs.Ideal.{Generated}
 use Rattle.ideal.specs.Poles.{Poles}
 use Rattle.ideal.proofs.Every.{Every}

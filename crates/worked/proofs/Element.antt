@@ -21,8 +21,8 @@ use Rattle.algebra.proofs.Sound.{number, raise}
 use Rattle.algebra.proofs.Solve.{_⊞_, _⊠_}
 use Rattle.prime.specs.Prime.{Prime}
 use Rattle.field.specs.Residue.{Z, el}
-use Rattle.field.specs.Element.{el-zero, el-one, el-add, el-mod-same}
-use Rattle.field.specs.Field as field
+use Rattle.field.proofs.Element.{el-zero, el-one, el-add, el-mod-same}
+use Rattle.prime_field.specs.Field as field
 use Rattle.polynomial.specs.Poly.{Poly, coef}
 use Rattle.polynomial.proofs.Kernel.{eval-quadratic}
 use Rattle.ideal.specs.Poles.{Poles}

@@ -16,7 +16,7 @@ use Rattle.algebra.proofs.Test.{both, both-left, both-right}
 use Rattle.algebra.proofs.Sound.{number, head, tail}
 use Rattle.algebra.proofs.Solve.{_⊞_, _⊠_, ⊟_}
 use Rattle.field.specs.Residue.{Z, el}
-use Rattle.field.specs.Field as field
+use Rattle.prime_field.specs.Field as field
 use Rattle.ideal.specs.Ideal.{Generated, Multiple, Colon, SameIdeal}
 use Rattle.ideal.specs.Poles.{largest-gap, Poles}
 use Rattle.ideal.specs.Reduced.{Least, IsStar}

@@ -20,7 +20,7 @@ use Rattle.algebra.proofs.Norm.{E, var, num, nil, unit, H, z, con, cons, plus, 
 use Rattle.algebra.proofs.Sound.{number, value, same-value}
 use Rattle.algebra.proofs.Solve.{_⊞_, _⊠_, ⊟_}
 use Rattle.field.specs.Residue.{Z, el}
-use Rattle.field.specs.Element.{el-zero, el-one, el-add, el-self}
+use Rattle.field.proofs.Element.{el-zero, el-one, el-add, el-self}
 use Rattle.curve.specs.Curve as K
 use Rattle.curve.specs.Curve.{Curve, Coordinate, constant}
 use Rattle.curve.proofs.Coefficient.{constant-zero, constant-one, constant-add}

@@ -15,8 +15,9 @@ use native.Mathlib.Nat.{mod-self, mod-zero, mod-mod, zero-mod, add-mod, mod-eq-o
 use native.Mathlib.Decide.{Fin-discrete}
 use native.Mathlib.Omega.{arith}
 use Rattle.algebra.specs.Ring.{CommRing}
-use Rattle.field.specs.Remainder.{mod-mul-mod, mul-mod-mod}
-use Rattle.field.specs.Residue.{Zmod, fin, fin-path, fin-val, modulus, modulus-pos, Z, el, num}
+use Rattle.algebra.proofs.Modulo.{mod-mul-mod, mul-mod-mod, fin-path, fin-val}
+use Rattle.field.specs.Residue.{Zmod, modulus, modulus-pos, Z, el, num}
+use Rattle.algebra.specs.Modulo.{fin}
 
 -- a + b = 0 and c + b = 0 make a = c, in every ring
 pub cancel : (R : CommRing) (a b c : R .Car) → R .add a b ≡ R .zero → R .add c b ≡ R .zero → a ≡ c
