@@ -19,7 +19,8 @@ use Rattle.field.specs.Residue.{Z, el}
 use Rattle.field.proofs.Element.{el-zero, el-one}
 use Rattle.curve.specs.Curve.{Curve, Coordinate, x, y, constant}
 use Rattle.curve.proofs.Coefficient.{constant-one}
-use Rattle.curve.specs.Monomial.{coefficient, mono}
+use Rattle.curve.specs.Sequence.{coefficient}
+use Rattle.curve.specs.Monomial.{mono}
 use Rattle.curve.proofs.Term.{coefficient-add, coefficient-constant-mul, coefficient-ext}
 use Rattle.curve.proofs.Product.{coefficient-mono}
 use Rattle.curve.proofs.Monomial.{coefficient-mono-other}

@@ -18,7 +18,8 @@ use Rattle.curve.proofs.Back.{weigh-vanish}
 use Rattle.curve.proofs.Coefficient.{at-ext, at-zero, at-add, at-neg, at-constant-mul, at-x-first, at-x-next, at-y-0, at-y-1, at-y-2}
 use Rattle.curve.specs.Pole.{pole}
 use Rattle.curve.proofs.Pole.{Located, place, gap, locate}
-use Rattle.curve.specs.Monomial.{Below, coefficient}
+use Rattle.curve.specs.Monomial.{Below}
+use Rattle.curve.specs.Sequence.{coefficient}
 use Rattle.curve.proofs.Term.{coefficient-pole, coefficient-gap}
 
 module _ {k : CommRing} (C : Curve k) where

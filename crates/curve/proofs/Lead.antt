@@ -19,7 +19,8 @@ use Rattle.curve.proofs.Back.{back-high, back-vanish, weigh, weigh-vani
 use Rattle.curve.proofs.Coefficient.{at-y-0, at-y-1, at-y-2}
 use Rattle.curve.specs.Pole.{pole}
 use Rattle.curve.proofs.Pole.{Located, place, gap, locate}
-use Rattle.curve.specs.Monomial.{coefficient, pick, twist, Below}
+use Rattle.curve.specs.Sequence.{coefficient, pick, twist}
+use Rattle.curve.specs.Monomial.{Below}
 use Rattle.curve.proofs.Term.{coefficient-pole, coefficient-gap, coefficient-x-high, pick-true, pick-false}
 use Rattle.curve.proofs.Filtration.{below-coefficient, below-more, below-gap, below-x, below-y}
 

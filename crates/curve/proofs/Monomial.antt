@@ -15,7 +15,8 @@ use Rattle.curve.proofs.Back.{weigh-vanish}
 use Rattle.curve.proofs.Coefficient.{at-one-0, at-one-x, at-one-y, at-x-first, at-x-next, at-y-0, at-y-1, at-y-2}
 use Rattle.curve.specs.Pole.{pole}
 use Rattle.curve.proofs.Pole.{Located, place, gap, locate}
-use Rattle.curve.specs.Monomial.{coefficient, power, monomial, mono}
+use Rattle.curve.specs.Sequence.{coefficient}
+use Rattle.curve.specs.Monomial.{power, monomial, mono}
 use Rattle.curve.proofs.Term.{coefficient-pole, coefficient-gap}
 use Rattle.curve.proofs.Product.{mono-monomial}
 

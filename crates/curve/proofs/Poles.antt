@@ -20,7 +20,8 @@ use Rattle.ideal.specs.Poles.{IsPole}
 use Rattle.curve.specs.Curve.{Curve, Coordinate, constant, part, at}
 use Rattle.curve.proofs.Coefficient.{at-constant-x, at-constant-y}
 use Rattle.curve.specs.Pole.{pole}
-use Rattle.curve.specs.Monomial.{coefficient, twist, power, monomial, mono, Below}
+use Rattle.curve.specs.Sequence.{coefficient, twist}
+use Rattle.curve.specs.Monomial.{power, monomial, mono, Below}
 use Rattle.curve.proofs.Term.{coefficient-add, coefficient-constant-mul}
 use Rattle.curve.proofs.Filtration.{below-coefficient, below-add, below-constant-mul, below-more, below-step}
 use Rattle.curve.proofs.Lead.{twist-one, twist-turn}

@@ -17,7 +17,8 @@ use Rattle.curve.specs.Curve.{Curve, Coordinate, x, y, constant, at}
 use Rattle.curve.proofs.Coefficient.{at-one-0, at-one-x, at-one-y, constant-zero}
 use Rattle.curve.specs.Pole.{pole}
 use Rattle.curve.proofs.Pole.{pole-x, pole-y, Located, place, gap, locate, gap-dec}
-use Rattle.curve.specs.Monomial.{coefficient, twist, power, monomial, mono, Below}
+use Rattle.curve.specs.Sequence.{coefficient, twist}
+use Rattle.curve.specs.Monomial.{power, monomial, mono, Below}
 use Rattle.curve.proofs.Term.{coefficient-pole, coefficient-gap, coefficient-zero, coefficient-add, coefficient-neg, coefficient-constant-mul}
 use Rattle.curve.proofs.Filtration.{below-coefficient, below-zero, below-add, below-neg, below-constant-mul, below-more, below-none, below-step, below-gap}
 use Rattle.curve.proofs.Lead.{Top, top-one, top-y, top-y-y, top-x, twist-one}

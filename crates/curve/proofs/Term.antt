@@ -21,7 +21,7 @@ use Rattle.curve.specs.Curve.{Curve, t0, t1, t2, Coordinate, x, constant
 use Rattle.curve.proofs.Coefficient.{at-ext, at-zero, at-add, at-neg, at-constant-mul, at-x-first, at-x-next}
 use Rattle.curve.specs.Pole.{pole, x-power, y-power}
 use Rattle.curve.proofs.Pole.{pole-x, pole-y, Located, place, gap, locate}
-use Rattle.curve.specs.Monomial.{coefficient, pick, vector}
+use Rattle.curve.specs.Sequence.{coefficient, pick, vector}
 
 pub pick-true : {A : Type 0} (b : Bool) (u v : A) → T b → pick b u v ≡ u
 pick-true true u v t = refl

@@ -8,7 +8,7 @@ use Rattle.algebra.specs.Ring.{CommRing}
 use Rattle.ideal.specs.Poles.{IsGap, IsPole}
 use Rattle.curve.specs.Curve.{Curve, Coordinate, constant}
 use Rattle.curve.proofs.Pole.{gap-dec}
-use Rattle.curve.specs.Monomial.{coefficient, vector}
+use Rattle.curve.specs.Sequence.{coefficient, vector}
 use Rattle.curve.proofs.Term.{coefficient-gap, coefficient-ext, coefficient-zero, coefficient-constant-mul, coefficient-vector}
 
 module _ {k : CommRing} (C : Curve k) where

@@ -28,7 +28,8 @@ use Rattle.ideal.proofs.Span.{span-each, span-ideal}
 use Rattle.ideal.proofs.Reduced.{SmallFootprint, footprint-same}
 use Rattle.ideal.proofs.Finite.{BasedIdeal, footprint-based}
 use Rattle.curve.specs.Curve.{Curve, Coordinate, y}
-use Rattle.curve.specs.Monomial.{coefficient, mono}
+use Rattle.curve.specs.Sequence.{coefficient}
+use Rattle.curve.specs.Monomial.{mono}
 use Rattle.curve.proofs.Term.{coefficient-gap}
 use Rattle.poles.specs.Poles.{poles}
 use Rattle.curve.proofs.Poles.{below-some}

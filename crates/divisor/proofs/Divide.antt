@@ -14,7 +14,8 @@ use Rattle.ideal.specs.Poles.{IsPole, Poles, Monic}
 use Rattle.ideal.proofs.Degree.{degree}
 use Rattle.ideal.proofs.Leads.{IsSpace, space-neg, Lead, Based, lead-monic}
 use Rattle.curve.specs.Curve.{Curve, Coordinate, constant}
-use Rattle.curve.specs.Monomial.{coefficient, Below}
+use Rattle.curve.specs.Sequence.{coefficient}
+use Rattle.curve.specs.Monomial.{Below}
 use Rattle.curve.proofs.Term.{coefficient-add, coefficient-constant-mul}
 use Rattle.curve.proofs.Filtration.{below-coefficient, coefficient-below, below-zero, below-add, below-constant-mul, below-more}
 use Rattle.poles.specs.Poles.{poles}

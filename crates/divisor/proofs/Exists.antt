@@ -31,7 +31,8 @@ use Rattle.ideal.proofs.Reduced.{SmallFootprint, reduced-exists, reduced-footpr
 use Rattle.ideal.proofs.Finite.{BasedIdeal, generated-lead, generated-based-ideal}
 use Rattle.curve.specs.Curve.{Curve, Coordinate}
 use Rattle.curve.proofs.Coefficient.{constant-one}
-use Rattle.curve.specs.Monomial.{coefficient, mono, pick, Below}
+use Rattle.curve.specs.Sequence.{coefficient, pick}
+use Rattle.curve.specs.Monomial.{mono, Below}
 use Rattle.curve.proofs.Term.{coefficient-gap, coefficient-neg}
 use Rattle.curve.proofs.Filtration.{below-coefficient}
 use Rattle.curve.proofs.Product.{below-mono}

@@ -24,7 +24,8 @@ use Rattle.ideal.proofs.Generated.{generated-ideal, generated-each}
 use Rattle.ideal.proofs.Span.{Span, span-space, span-each, span-in}
 use Rattle.ideal.proofs.Triple.{Reach, triple-lead, triple-reach, triple-based}
 use Rattle.curve.specs.Curve.{Curve, Coordinate, x, y, constant}
-use Rattle.curve.specs.Monomial.{coefficient, mono, Below}
+use Rattle.curve.specs.Sequence.{coefficient}
+use Rattle.curve.specs.Monomial.{mono, Below}
 use Rattle.curve.proofs.Term.{pick-true}
 use Rattle.curve.proofs.Filtration.{below-coefficient, coefficient-below}
 use Rattle.curve.proofs.Lead.{twist-one, top-y}

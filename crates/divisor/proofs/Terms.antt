@@ -22,7 +22,8 @@ use Rattle.algebra.proofs.Test.{both, both-left, both-right}
 use Rattle.ideal.specs.Poles.{IsPole}
 use Rattle.ideal.proofs.Gaps.{pole-intro}
 use Rattle.curve.specs.Curve.{Curve, Coordinate, constant}
-use Rattle.curve.specs.Monomial.{coefficient, mono, pick}
+use Rattle.curve.specs.Sequence.{coefficient, pick}
+use Rattle.curve.specs.Monomial.{mono}
 use Rattle.curve.proofs.Term.{coefficient-zero, coefficient-add, coefficient-neg, coefficient-constant-mul, coefficient-ext}
 use Rattle.curve.proofs.Product.{coefficient-mono}
 use Rattle.curve.proofs.Monomial.{coefficient-mono-other}

@@ -21,7 +21,7 @@ use Rattle.ideal.proofs.Every.{Every}
 use Rattle.ideal.proofs.Leads.{Lead, ideal-space, space-neg}
 use Rattle.ideal.proofs.Generated.{generated-ideal, generated-each}
 use Rattle.curve.specs.Curve.{Curve, Coordinate}
-use Rattle.curve.specs.Monomial.{coefficient, pick}
+use Rattle.curve.specs.Sequence.{coefficient, pick}
 use Rattle.curve.proofs.Term.{coefficient-add, coefficient-neg, pick-true}
 use Rattle.poles.specs.Poles.{poles}
 use Rattle.divisor.specs.Kind.{Kind, k0, k11, k21, k22, k31, count, polynomials, IdealOf, IsBasis}

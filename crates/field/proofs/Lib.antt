@@ -4,4 +4,3 @@ pub mod Invert
 pub mod Sums
 pub mod Products
 pub mod Euclid
-pub mod Number

@@ -24,7 +24,7 @@ use Rattle.ideal.specs.Poles.{IsGap}
 use Rattle.curve.specs.Curve.{Curve, ascending, t0, t1, t2, Coordinate, at}
 use Rattle.curve.specs.Pole.{pole}
 use Rattle.curve.proofs.Pole.{Located, place, gap, locate}
-use Rattle.curve.specs.Monomial.{coefficient}
+use Rattle.curve.specs.Sequence.{coefficient}
 use Rattle.curve.proofs.Term.{coefficient-pole, coefficient-gap}
 use Rattle.nonsingular.specs.Equation.{Fx, Fy}
 use Rattle.nonsingular.specs.Normal.{of-parts, normal}

@@ -12,7 +12,8 @@ use Rattle.algebra.proofs.Solve.{solve, _⊞_, ⊟_}
 use Rattle.ideal.specs.Poles.{IsPole, HasPole, Monic}
 use Rattle.curve.specs.Curve.{Curve, Coordinate, constant}
 use Rattle.curve.proofs.Coefficient.{constant-one}
-use Rattle.curve.specs.Monomial.{coefficient, mono, Below}
+use Rattle.curve.specs.Sequence.{coefficient}
+use Rattle.curve.specs.Monomial.{mono, Below}
 use Rattle.curve.proofs.Term.{coefficient-add}
 use Rattle.curve.proofs.Filtration.{below-coefficient, coefficient-below, below-add, below-more}
 use Rattle.curve.proofs.Product.{below-mono, coefficient-mono, split}

@@ -1,5 +1,6 @@
 -- The coefficients of sums, products, constants and multiples of the variable.
 --   coef-zero coef-add coef-neg coef-one-head coef-one-next      of the ring's operations
+--   rest A f            f without its constant coefficient, divided by the variable
 --   coef-poly coef-rest coef-const-head coef-const-next          of polynomials given by coefficients
 --   coef-const-mul      of a constant times f
 --   coef-X-head coef-X-next                                      of the variable times f
@@ -10,9 +11,10 @@ use mathlib.Core.Path.{_≡_, refl, sym, _∙_, ap₂}
 use Prim.Native.Nat.{ℕ, zero, suc}
 use Rattle.algebra.specs.Ring.{CommRing}
 use Rattle.algebra.proofs.Laws.{mul-zero, zero-mul, neg-zero, zero-add}
-use Rattle.series.specs.Series.{Series, constant, shift, Finite}
+use Rattle.series.specs.Series.{tail, Series, constant, shift, Finite}
+use Rattle.series.proofs.Bounds.{finite-tail}
 use Rattle.series.proofs.Product.{product-head, product-next, constant-product}
-use Rattle.polynomial.specs.Poly.{Poly, coef, poly, poly-path, const, X, rest}
+use Rattle.polynomial.specs.Poly.{Poly, coef, poly, poly-path, const, X, finite}
 
 module _ (A : CommRing) where
   open CommRing A using (Car, zero as 𝟘, one as 𝟙, add as _⊕_, mul as _⊗_, neg as ⊖_, add-zero, mul-one, mul-comm)
@@ -37,7 +39,10 @@ module _ (A : CommRing) where
   unfolding Poly coef poly
   coef-poly a h i = refl
 
-  pub coef-rest : (f : Pol) (i : ℕ) → coef A (rest A f) i ≡ coef A f (suc i)
+  unfoldable pub rest : Pol → Pol
+  rest f = poly A (tail A (coef A f)) (finite-tail A (coef A f) (finite A f))
+
+  pub coef-rest : (f : Pol) (i : ℕ) → coef A (rest f) i ≡ coef A f (suc i)
   unfolding Poly coef poly rest
   coef-rest f i = refl
 
@@ -107,9 +112,9 @@ module _ (A : CommRing) where
       go zero = simp (coef-const-mul, coef-const-head)
       go (suc i) = simp (coef-const-mul, coef-const-next, mul-zero A)
 
-  pub split : (f : Pol) → f ≡ const A (coef A f zero) +ₚ X A ·ₚ rest A f
+  pub split : (f : Pol) → f ≡ const A (coef A f zero) +ₚ X A ·ₚ rest f
   split f = poly-path A go
     where
-      go : (i : ℕ) → coef A f i ≡ coef A (const A (coef A f zero) +ₚ X A ·ₚ rest A f) i
+      go : (i : ℕ) → coef A f i ≡ coef A (const A (coef A f zero) +ₚ X A ·ₚ rest f) i
       go zero = simp (coef-add, coef-const-head, coef-X-head, add-zero)
       go (suc i) = simp (coef-add, coef-const-next, coef-X-next, coef-rest, zero-add A)

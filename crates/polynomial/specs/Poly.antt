@@ -5,16 +5,15 @@
 --   poly A a h         the polynomial with the coefficients a
 --   const A k          the polynomial k
 --   X A                the variable
---   rest A f           f without its constant coefficient, divided by the variable
 --   poly-path          polynomials with the same coefficients are equal
 use mathlib.Core.Path.{_≡_, refl, fun-ext}
 use mathlib.Core.Logic.{∥∥₁-prop}
 use mathlib.Core.HLevel.{Σ-prop-path, Σ-set, prop→set, →-set}
 use Prim.Native.Nat.{ℕ, zero}
 use Rattle.algebra.specs.Ring.{CommRing}
-use Rattle.series.specs.Series.{Finite, Series, tail, product, constant, shift}
+use Rattle.series.specs.Series.{Finite, Series, product, constant, shift}
 use Rattle.series.proofs.Product.{product-comm, product-assoc, product-one, product-add}
-use Rattle.series.proofs.Bounds.{finite-add, finite-neg, finite-product, finite-constant, finite-shift, finite-tail}
+use Rattle.series.proofs.Bounds.{finite-add, finite-neg, finite-product, finite-constant, finite-shift}
 
 module _ (A : CommRing) where
   abbrev pub Polynomial : Type 0
@@ -64,6 +63,3 @@ module _ (A : CommRing) where
 
   unfoldable pub X : Poly .Car
   X = poly (shift A (constant A (A .one))) (finite-shift A (constant A (A .one)) (finite-constant A (A .one)))
-
-  unfoldable pub rest : Poly .Car → Poly .Car
-  rest f = poly (tail A (coef f)) (finite-tail A (coef f) (finite f))

@@ -11,7 +11,8 @@ use native.Mathlib.Decide.{ℕ-discrete, decLt}
 use Rattle.algebra.specs.Ring.{CommRing}
 use Rattle.algebra.proofs.Laws as L
 use Rattle.curve.specs.Curve.{Curve, Coordinate, constant}
-use Rattle.curve.specs.Monomial.{coefficient, Below}
+use Rattle.curve.specs.Sequence.{coefficient}
+use Rattle.curve.specs.Monomial.{Below}
 use Rattle.curve.proofs.Term.{coefficient-add, coefficient-constant-mul}
 use Rattle.curve.proofs.Filtration.{below-coefficient}
 use Rattle.vector.specs.Contract.{total}

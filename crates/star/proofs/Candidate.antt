@@ -15,7 +15,8 @@ use Rattle.ideal.specs.Poles.{largest-gap, IsPole, HasPole}
 use Rattle.ideal.proofs.Leads.{Lead}
 use Rattle.curve.specs.Curve.{Curve, Coordinate, x, y, constant}
 use Rattle.curve.proofs.Coefficient.{constant-zero}
-use Rattle.curve.specs.Monomial.{coefficient, power, mono, twist, Below}
+use Rattle.curve.specs.Sequence.{coefficient, twist}
+use Rattle.curve.specs.Monomial.{power, mono, Below}
 use Rattle.curve.proofs.Filtration.{below-coefficient, coefficient-below}
 use Rattle.poles.specs.Poles.{poles}
 use Rattle.poles.proofs.Monic.{coefficient-has-pole}

@@ -15,7 +15,8 @@ use Rattle.ideal.proofs.Gaps.{pole-large}
 use Rattle.ideal.proofs.Degree.{lowered, mono-has, pole-mul, pole-at}
 use Rattle.ideal.proofs.Kernel.{Ker, ker-below, ker-less}
 use Rattle.curve.specs.Curve.{Curve, Coordinate, constant}
-use Rattle.curve.specs.Monomial.{coefficient, mono, Below}
+use Rattle.curve.specs.Sequence.{coefficient}
+use Rattle.curve.specs.Monomial.{mono, Below}
 use Rattle.curve.proofs.Filtration.{below-none, below-more, below-step}
 use Rattle.curve.proofs.Product.{split}
 use Rattle.poles.specs.Poles.{poles}

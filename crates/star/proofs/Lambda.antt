@@ -14,7 +14,8 @@ use Rattle.field.specs.Residue.{Z, el}
 use Rattle.field.proofs.Element.{el-zero, el-one}
 use Rattle.ideal.specs.Poles.{largest-gap, IsGap}
 use Rattle.curve.specs.Curve.{Curve, Coordinate}
-use Rattle.curve.specs.Monomial.{coefficient, power, monomial, mono, twist, Below}
+use Rattle.curve.specs.Sequence.{coefficient, twist}
+use Rattle.curve.specs.Monomial.{power, monomial, mono, Below}
 use Rattle.curve.proofs.Filtration.{coefficient-below}
 use Rattle.vector.specs.Vector.{Vec, Top, at, res, row, element, width}
 use Rattle.vector.specs.Contract.{RowsOf}

@@ -17,7 +17,8 @@ use Rattle.field.proofs.Element.{el-zero}
 use Rattle.field.specs.Contract.{Is}
 use Rattle.ideal.specs.Poles.{largest-gap}
 use Rattle.curve.specs.Curve.{Curve, Coordinate, x, y}
-use Rattle.curve.specs.Monomial.{coefficient, power, monomial, mono}
+use Rattle.curve.specs.Sequence.{coefficient}
+use Rattle.curve.specs.Monomial.{power, monomial, mono}
 use Rattle.vector.specs.Vector.{at, res, row, element, x-to, width}
 use Rattle.vector.specs.Contract.{pairing, RowsOf}
 use Rattle.vector.proofs.Monomial.{shift-high, shift-low}

@@ -19,7 +19,8 @@ use Rattle.ideal.proofs.Every.{Every}
 use Rattle.ideal.proofs.Leads.{Lead}
 use Rattle.ideal.proofs.Gaps.{pole-intro, pole-large}
 use Rattle.curve.specs.Curve.{Curve, Coordinate, x, y, constant}
-use Rattle.curve.specs.Monomial.{coefficient, mono, twist, Below}
+use Rattle.curve.specs.Sequence.{coefficient, twist}
+use Rattle.curve.specs.Monomial.{mono, Below}
 use Rattle.curve.proofs.Filtration.{coefficient-below}
 use Rattle.poles.proofs.Monic.{monic-coefficient}
 use Rattle.divisor.specs.Kind.{Kind, code, k0, k11, k21, k22, k31, polynomials}

@@ -19,7 +19,8 @@ use Rattle.field.proofs.Invert.{lt-of-ne}
 use Rattle.ideal.specs.Poles.{IsPole, Poles, HasPole, Monic}
 use Rattle.ideal.proofs.Span.{InX, inx-constant, inx-x, inx-one}
 use Rattle.curve.specs.Curve.{Curve, x, y, constant}
-use Rattle.curve.specs.Monomial.{coefficient, power, monomial, mono}
+use Rattle.curve.specs.Sequence.{coefficient}
+use Rattle.curve.specs.Monomial.{power, monomial, mono}
 use Rattle.curve.proofs.Filtration.{coefficient-below}
 use Rattle.poles.specs.Poles.{poles}
 use Rattle.curve.proofs.Poles.{below-constant}

@@ -23,7 +23,7 @@ use Rattle.curve.specs.Curve as K
 use Rattle.curve.proofs.Back.{back-low, back-high, weigh, weigh-from}
 use Rattle.curve.proofs.Coefficient.{at-ext, at-one-0, at-one-x, at-one-y, at-y-0, at-y-1, at-y-2}
 use Rattle.curve.specs.Pole.{pole}
-use Rattle.curve.specs.Monomial.{coefficient}
+use Rattle.curve.specs.Sequence.{coefficient}
 use Rattle.curve.proofs.Term.{coefficient-ext}
 use Rattle.curve.proofs.Monomial.{at-y-0-straight, at-y-1-straight, at-y-2-straight}
 use Rattle.nonsingular.specs.Derivative.{twice, thrice, vector-x, vector-y, derivative-x, derivative-y}

@@ -20,7 +20,7 @@ use Rattle.curve.specs.Curve.{Curve, Coordinate, constant}
 use Rattle.curve.specs.Curve as K
 use Rattle.curve.specs.Pole.{pole}
 use Rattle.curve.proofs.Pole.{Located, place, gap, locate, pole-is-pole}
-use Rattle.curve.specs.Monomial.{coefficient}
+use Rattle.curve.specs.Sequence.{coefficient}
 use Rattle.curve.proofs.Term.{coefficient-pole, coefficient-gap, coefficient-ext, coefficient-add, coefficient-constant-mul, coefficient-vector}
 use Rattle.curve.proofs.Vector.{vector-same, vector-zero, vector-scale}
 use Rattle.vector.specs.Vector.{Vec, Top, at, res, element, past-end, x-to, scalar}

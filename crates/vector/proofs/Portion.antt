@@ -17,7 +17,7 @@ use Rattle.curve.specs.Curve.{Curve, Coordinate}
 use Rattle.curve.specs.Curve as K
 use Rattle.curve.specs.Pole.{pole}
 use Rattle.curve.proofs.Pole.{pole-is-pole}
-use Rattle.curve.specs.Monomial.{vector}
+use Rattle.curve.specs.Sequence.{vector}
 use Rattle.curve.proofs.Term.{coefficient-pole, coefficient-vector}
 use Rattle.curve.proofs.Vector.{vector-same, vector-zero}
 use Rattle.vector.specs.Vector.{at, res, element, past-end, x-to, y-to, scalar}
