@@ -75,4 +75,6 @@ module _ (m : ℕ) (pos : 0 < m) where
 
   pub times-plus : (x y z : Fin m) → x ·ₘ (y +ₘ z) ≡ x ·ₘ y +ₘ x ·ₘ z
   unfolding fin
-  times-plus x y z = Fin·val-path (mul-mod-mod m (x .0) (y .0 + z .0) ∙ ap (λ (n : ℕ). n % m) (mul-add (x .0) (y .0) (z .0)) ∙ sym (mod-add-mod (x .0 * y .0) m ((x .0 * z .0) % m) ∙ add-mod-mod (x .0 * y .0) (x .0 * z .0) m))
+  times-plus x y z =
+      Fin·val-path (mul-mod-mod m (x .0) (y .0 + z .0) ∙ ap (λ (n : ℕ). n % m) (mul-add (x .0) (y .0) (z .0))
+      ∙ sym (mod-add-mod (x .0 * y .0) m ((x .0 * z .0) % m) ∙ add-mod-mod (x .0 * y .0) (x .0 * z .0) m))

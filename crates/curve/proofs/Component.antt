@@ -145,7 +145,21 @@ module _ (A : CommRing) (t0 t1 t2 : A .Car) where
       rw y-squared
       (normal-path
       (simp (component-y-0, component-triple-0, component-triple-2, component-neg, component-add, component-scale, component-embed-0, y-0, L.mul-zero, L.zero-add, A .mul-one))
-      (simp (component-y-1, component-triple-0, component-triple-1, component-triple-2, component-neg, component-add, component-scale, component-embed-1, y-1, L.mul-zero, L.zero-add, A .add-zero, A .mul-one))
+      (simp (
+        component-y-1,
+        component-triple-0,
+        component-triple-1,
+        component-triple-2,
+        component-neg,
+        component-add,
+        component-scale,
+        component-embed-1,
+        y-1,
+        L.mul-zero,
+        L.zero-add,
+        A .add-zero,
+        A .mul-one,
+      ))
       (simp (component-y-2, component-triple-1, component-triple-2, component-neg, component-add, component-scale, component-embed-2, y-2, L.mul-zero, L.zero-add, A .add-zero, A .mul-one)))
 
   pub spread : (g : El) → g ≡ emb (part 0 g) ⊕ emb (part 1 g) ⊗ 𝕪 ⊕ emb (part 2 g) ⊗ (𝕪 ⊗ 𝕪)

@@ -56,11 +56,18 @@ module _ {k : CommRing} (C : Curve k) where
 
   -- from y³ to F
   gather : (R : CommRing) (x y a0 c0 c1 c2 c3 c4 c5 c6 c7 c8 T0 T1 T2 : R .Car) → (R .mul y (R .mul y y) ≡ R .neg (R .add (R .add (R .mul T2 (R .mul y y)) (R .mul T1 y)) T0))
-      × ((T0 ≡ R .add c0 (R .mul x (R .add c1 (R .mul x (R .add c3 (R .mul x (R .add c6 (R .mul x (R .add a0 (R .mul x (R .zero))))))))))) × ((T1 ≡ R .add c2 (R .mul x (R .add c4 (R .mul x (R .add c7 (R .mul x (R .zero))))))) × ((T2 ≡ R .add c5 (R .mul x (R .add c8 (R .mul x (R .zero))))) × Unit {0}))) → F-at (ops R) x y a0 c0 c1 c2 c3 c4 c5 c6 c7 c8 ≡ R .zero
+      × ((T0 ≡ R .add c0 (R .mul x (R .add c1 (R .mul x (R .add c3 (R .mul x (R .add c6 (R .mul x (R .add a0 (R .mul x (R .zero)))))))))))
+      × ((T1 ≡ R .add c2 (R .mul x (R .add c4 (R .mul x (R .add c7 (R .mul x (R .zero)))))))
+      × ((T2 ≡ R .add c5 (R .mul x (R .add c8 (R .mul x (R .zero))))) × Unit {0}))) → F-at (ops R) x y a0 c0 c1 c2 c3 c4 c5 c6 c7 c8 ≡ R .zero
   gather R =
-      solve-from R 15 (λ x y a0 c0 c1 c2 c3 c4 c5 c6 c7 c8 T0 T1 T2. given unit (y ⊠ (y ⊠ y)) (⊟ (T2 ⊠ (y ⊠ y) ⊞ T1 ⊠ y ⊞ T0)) ∷ given (⊟ unit) T0 (c0 ⊞ x ⊠ (c1 ⊞ x ⊠ (c3 ⊞ x ⊠ (c6 ⊞ x ⊠ (a0 ⊞ x ⊠ (nil)))))) ∷ given (⊟ y) T1 (c2 ⊞ x ⊠ (c4 ⊞ x ⊠ (c7 ⊞ x ⊠ (nil)))) ∷ given (⊟ (y ⊠ y)) T2 (c5 ⊞ x ⊠ (c8 ⊞ x ⊠ (nil))) ∷ [])
+      solve-from R 15 (λ x y a0 c0 c1 c2 c3 c4 c5 c6 c7 c8 T0 T1 T2. given unit (y ⊠ (y ⊠ y)) (⊟ (T2 ⊠ (y ⊠ y) ⊞ T1 ⊠ y ⊞ T0))
+      ∷ given (⊟ unit) T0 (c0 ⊞ x ⊠ (c1 ⊞ x ⊠ (c3 ⊞ x ⊠ (c6 ⊞ x ⊠ (a0 ⊞ x ⊠ (nil)))))) ∷ given (⊟ y) T1 (c2 ⊞ x ⊠ (c4 ⊞ x ⊠ (c7 ⊞ x ⊠ (nil))))
+      ∷ given (⊟ (y ⊠ y)) T2 (c5 ⊞ x ⊠ (c8 ⊞ x ⊠ (nil))) ∷ [])
       (λ x y a0 c0 c1 c2 c3 c4 c5 c6 c7 c8 T0 T1 T2. F-at E-ops x y a0 c0 c1 c2 c3 c4 c5 c6 c7 c8) (λ x y a0 c0 c1 c2 c3 c4 c5 c6 c7 c8 T0 T1 T2. nil) tt
 
-  pub curve-equation : F-at (ops (Coordinate C)) (x C) (y C) (constant C (C .a0)) (constant C (C .c0)) (constant C (C .c1)) (constant C (C .c2)) (constant C (C .c3)) (constant C (C .c4)) (constant C (C .c5)) (constant C (C .c6)) (constant C (C .c7)) (constant C (C .c8)) ≡ 𝟎
+  pub curve-equation : F-at (ops (Coordinate C)) (x C) (y C) (constant C (C .a0)) (constant C (C .c0)) (constant C (C .c1)) (constant C (C .c2))
+      (constant C (C .c3)) (constant C (C .c4)) (constant C (C .c5)) (constant C (C .c6)) (constant C (C .c7)) (constant C (C .c8)) ≡ 𝟎
   curve-equation =
-      gather (Coordinate C) (x C) (y C) (constant C (C .a0)) (constant C (C .c0)) (constant C (C .c1)) (constant C (C .c2)) (constant C (C .c3)) (constant C (C .c4)) (constant C (C .c5)) (constant C (C .c6)) (constant C (C .c7)) (constant C (C .c8)) (in-x C (t0 C)) (in-x C (t1 C)) (in-x C (t2 C)) (y-cubed, (in-x-t0, (in-x-t1, (in-x-t2, tt))))
+      gather (Coordinate C) (x C) (y C) (constant C (C .a0)) (constant C (C .c0)) (constant C (C .c1)) (constant C (C .c2)) (constant C (C .c3))
+      (constant C (C .c4)) (constant C (C .c5)) (constant C (C .c6)) (constant C (C .c7)) (constant C (C .c8)) (in-x C (t0 C)) (in-x C (t1 C))
+      (in-x C (t2 C)) (y-cubed, (in-x-t0, (in-x-t1, (in-x-t2, tt))))

@@ -83,7 +83,8 @@ module _ {k : CommRing} (C : Curve k) where
   lead-y : {n : ℕ} {g : El} → Below C (suc n) g → coefficient C (4 + n) (y C ⊗ g) ≡ twist C 4 n ·ₖ coefficient C n g
   lead-y {n} {g} b = go (locate n)
     where
-      from : (i j i′ j′ : ℕ) → j ≤ 2 → j′ ≤ 2 → n ≡ pole i j → 4 + n ≡ pole i′ j′ → at C i′ j′ (y C ⊗ g) ≡ twist C 4 n ·ₖ at C i j g → coefficient C (4 + n) (y C ⊗ g) ≡ twist C 4 n ·ₖ coefficient C n g
+      from : (i j i′ j′ : ℕ) → j ≤ 2 → j′ ≤ 2 → n ≡ pole i j → 4 + n ≡ pole i′ j′ → at C i′ j′ (y C ⊗ g) ≡ twist C 4 n ·ₖ at C i j g
+          → coefficient C (4 + n) (y C ⊗ g) ≡ twist C 4 n ·ₖ coefficient C n g
       from i j i′ j′ l l′ e e′ t =
           ap (λ m. coefficient C m (y C ⊗ g)) e′
           ∙ coefficient-pole C i′ j′ l′ (y C ⊗ g)

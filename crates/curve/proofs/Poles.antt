@@ -58,7 +58,8 @@ module _ (K : Field) (C : Curve (K .ring)) where
       b : (j : ℕ) → (n : ℕ) × ((i : ℕ) → n ≤ i → coef (K .ring) (part C j g) i ≡ 𝟘)
       b j = bound (K .ring) (K .discrete) (part C j g)
 
-      go : (n : ℕ) × ((i : ℕ) → n ≤ i → coef (K .ring) (part C 0 g) i ≡ 𝟘) → (n : ℕ) × ((i : ℕ) → n ≤ i → coef (K .ring) (part C 1 g) i ≡ 𝟘) → (n : ℕ) × ((i : ℕ) → n ≤ i → coef (K .ring) (part C 2 g) i ≡ 𝟘) → (n : ℕ) × Below C n g
+      go : (n : ℕ) × ((i : ℕ) → n ≤ i → coef (K .ring) (part C 0 g) i ≡ 𝟘) → (n : ℕ) × ((i : ℕ) → n ≤ i → coef (K .ring) (part C 1 g) i ≡ 𝟘)
+          → (n : ℕ) × ((i : ℕ) → n ≤ i → coef (K .ring) (part C 2 g) i ≡ 𝟘) → (n : ℕ) × Below C n g
       go (n0, v0) (n1, v1) (n2, v2) = (pole (n0 + n1 + n2) 2, record { vanish = van })
         where
           van : (i j : ℕ) → j ≤ 2 → pole (n0 + n1 + n2) 2 ≤ pole i j → at C i j g ≡ 𝟘
@@ -93,7 +94,16 @@ module _ (K : Field) (C : Curve (K .ring)) where
 
       gone : coefficient C n g +ₖ q ·ₖ coefficient C n h ≡ 𝟘
       gone =
-          cc (L.neg-mul (K .ring) (coefficient C n g ·ₖ K .inv (coefficient C n h)) (coefficient C n h), K .ring .mul-assoc (coefficient C n g) (K .inv (coefficient C n h)) (coefficient C n h), K .ring .mul-comm (K .inv (coefficient C n h)) (coefficient C n h), K .mul-inv (coefficient C n h) (lead-nonzero c u), K .ring .mul-one (coefficient C n g), K .ring .add-neg (coefficient C n g))
+          cc (
+            L.neg-mul (K .ring) (coefficient C n g ·ₖ K .inv (coefficient C n h)) (coefficient C n h),
+            K .ring .mul-assoc (coefficient C n g)
+                (K .inv (coefficient C n h)) (coefficient C n h),
+            K .ring .mul-comm (K .inv (coefficient C n h)) (coefficient C n h),
+            K .mul-inv
+                (coefficient C n h) (lead-nonzero c u),
+            K .ring .mul-one (coefficient C n g),
+            K .ring .add-neg (coefficient C n g),
+          )
 
   pub mono-zero : mono C 0 ≡ 𝟏
   unfolding power monomial mono

@@ -105,10 +105,12 @@ module _ {k : CommRing} (C : Curve k) where
 
   -- the term of g at the top, times h
   term-lead : (m : ℕ) (g : El) {n : ℕ} {h : El} → Below C (suc n) h
-      → Below C (suc (m + n)) (constant C (coefficient C m g) ⊗ (mono C m ⊗ h)) × (coefficient C (m + n) (constant C (coefficient C m g) ⊗ (mono C m ⊗ h)) ≡ twist C m n ·ₖ (coefficient C m g ·ₖ coefficient C n h))
+      → Below C (suc (m + n)) (constant C (coefficient C m g) ⊗ (mono C m ⊗ h))
+      × (coefficient C (m + n) (constant C (coefficient C m g) ⊗ (mono C m ⊗ h)) ≡ twist C m n ·ₖ (coefficient C m g ·ₖ coefficient C n h))
   term-lead m g {n} {h} b = go (gap-dec m)
     where
-      go : Dec (IsGap m) → Below C (suc (m + n)) (constant C (coefficient C m g) ⊗ (mono C m ⊗ h)) × (coefficient C (m + n) (constant C (coefficient C m g) ⊗ (mono C m ⊗ h)) ≡ twist C m n ·ₖ (coefficient C m g ·ₖ coefficient C n h))
+      go : Dec (IsGap m) → Below C (suc (m + n)) (constant C (coefficient C m g) ⊗ (mono C m ⊗ h))
+          × (coefficient C (m + n) (constant C (coefficient C m g) ⊗ (mono C m ⊗ h)) ≡ twist C m n ·ₖ (coefficient C m g ·ₖ coefficient C n h))
       go (no p) = (
         below-constant-mul C _ (top-mono m p .bound b),
         coefficient-constant-mul C (m + n) _ _

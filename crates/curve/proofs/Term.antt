@@ -47,7 +47,8 @@ module _ {k : CommRing} (C : Curve k) where
   unfolding coefficient
   coefficient-pole i j h g =
       let ey : y-power (pole i j) ≡ j = pole-y i j h in
-      pick-true (leb (4 * y-power (pole i j)) (pole i j)) (at C (x-power (pole i j)) (y-power (pole i j)) g) 𝟘 (le→leb (4 * y-power (pole i j)) (pole i j) (omega arith)) ∙ ap₂ (λ a b. at C a b g) (pole-x i j h) ey
+      pick-true (leb (4 * y-power (pole i j)) (pole i j)) (at C (x-power (pole i j)) (y-power (pole i j)) g) 𝟘
+      (le→leb (4 * y-power (pole i j)) (pole i j) (omega arith)) ∙ ap₂ (λ a b. at C a b g) (pole-x i j h) ey
 
   pub coefficient-gap : (n : ℕ) → IsGap n → (g : El) → coefficient C n g ≡ 𝟘
   unfolding coefficient

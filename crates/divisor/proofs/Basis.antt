@@ -145,7 +145,8 @@ module _ (K : Field) (C : Curve (K .ring)) (nonzero : ¬ (C .a0 ≡ K .ring .zer
     lead-basis m (u, mu, pu) = lead-reached K C nonzero κ n m (u, basis-same u .1 mu, pu)
 
     pub basis-footprint : SmallFootprint P (IdealOf C κ n)
-    basis-footprint = footprint-same P basis-same (record { ideal = closed-ideal basis-closed; based = spanned-based K C nonzero κ n; leads = λ m l. reached-lead K C nonzero κ n m (reached-large κ m l) })
+    basis-footprint =
+        footprint-same P basis-same (record { ideal = closed-ideal basis-closed; based = spanned-based K C nonzero κ n; leads = λ m l. reached-lead K C nonzero κ n m (reached-large κ m l) })
 
     pub basis-based : BasedIdeal P (IdealOf C κ n)
     basis-based = footprint-based P basis-footprint

@@ -63,7 +63,8 @@ module _ (K : Field) (C : Curve (K .ring)) (nonzero : ¬ (C .a0 ≡ K .ring .zer
       colon-recognised =
           (closed-basis K C nonzero κ n colon-closed, same-trans (Coordinate C) (same-sym (Coordinate C) (closed-same K C nonzero κ n colon-closed)) spanned-colon)
 
-    pub star-recognised : {J : El → Type 0} {f : El} {d : ℕ} → Least P J f → HasPole P f d → Matched J κ d → Every (Colon (Coordinate C) f J) (polynomials C κ n) → IsBasis C κ n × IsStar P J (IdealOf C κ n)
+    pub star-recognised : {J : El → Type 0} {f : El} {d : ℕ} → Least P J f → HasPole P f d → Matched J κ d
+        → Every (Colon (Coordinate C) f J) (polynomials C κ n) → IsBasis C κ n × IsStar P J (IdealOf C κ n)
     star-recognised {J} {f} l pf met ms = (found .0, record { f = f; least = l; same = found .1 })
       where
         found : IsBasis C κ n × SameIdeal (Coordinate C) (IdealOf C κ n) (Colon (Coordinate C) f J)

@@ -126,7 +126,10 @@ module _ {p a r0 r1 t0 t1 : ℕ} where
     end-second s e =
         record {
           below = omega (arith, s .turn .whole, mul-le-mul-right {m = 2} {n = r0} t1 (omega arith));
-          is = inverse-unique p h (el p a) (el p t1) (el-pos p a pos below) (sym (el-mul p a t1) ∙ ap (el p) (mul-comm a t1 ∙ s .turn .second .1 ∙ ap (λ (n : ℕ). n + s .turn .second .0 * p) e) ∙ el-multiple p 1 (s .turn .second .0) ∙ el-one p);
+          is =
+              inverse-unique p h (el p a) (el p t1) (el-pos p a pos below)
+              (sym (el-mul p a t1) ∙ ap (el p) (mul-comm a t1 ∙ s .turn .second .1 ∙ ap (λ (n : ℕ). n + s .turn .second .0 * p) e)
+              ∙ el-multiple p 1 (s .turn .second .0) ∙ el-one p);
         }
 
 pub end-zero : (p a : ℕ) → Prime p → a ≡ 0 → Is p 0 (inverse p (el p a))

@@ -118,8 +118,12 @@ module _ {R : CommRing} (P : Poles R) where
 
           at : (m : ℕ) → Lead P I m → Dec (m < suc (b .pole + largest-gap)) → Lead P (Generated R (f ∷ gs)) m
           at m lead (yes h) = more-leads (have m h lead)
-          at m lead (no h) =
-              (mono (m - b .pole) ⊗ f, generated-ideal R (f ∷ gs) .times (mono (m - b .pole)) (generated-first R f gs), pole-at P (omega arith) (pole-mul P (mono-has P {n = m - b .pole} (pole-large (omega arith))) pf))
+          at m lead (no h) = (
+            mono (m - b .pole) ⊗ f,
+            generated-ideal R (f ∷ gs) .times (mono (m - b .pole)) (generated-first R f gs),
+            pole-at P (omega arith)
+                (pole-mul P (mono-has P {n = m - b .pole} (pole-large (omega arith))) pf),
+          )
 
   pub product-based : {I J : Car → Type 0} → BasedIdeal I → BasedIdeal J → BasedIdeal (Product R I J)
   product-based {I} {J} b c = go (generators b) (generators c)

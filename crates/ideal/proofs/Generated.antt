@@ -88,7 +88,8 @@ module _ (R : CommRing) where
           → Every (λ g. Generated R (products gs hs) (g ⊗ b)) gs
       row b mb =
           every-map
-          (λ g ms. subst (Generated R (products gs hs)) (R .mul-comm b g) (generated-in (taken-ideal R g t) hs (every-map (λ h m. subst (Generated R (products gs hs)) (R .mul-comm g h) m) hs ms) b mb)) gs
+          (λ g ms. subst (Generated R (products gs hs)) (R .mul-comm b g)
+          (generated-in (taken-ideal R g t) hs (every-map (λ h m. subst (Generated R (products gs hs)) (R .mul-comm g h) m) hs ms) b mb)) gs
 
       each : (a b : Car) → Generated R gs a → Generated R hs b → Generated R (products gs hs) (a ⊗ b)
       each a b ma mb =

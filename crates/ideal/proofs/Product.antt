@@ -112,8 +112,12 @@ module _ {R : CommRing} (P : Poles R) where
   there-product {I} {I′} {J} {a} {b} f (more {a = x} {b = y} {s} {h = g} ix jy p e) = go (f x ix) (there-product f p)
     where
       go : (h : Car) × I′ h × (a ⊗ x ≡ b ⊗ h) → (t : Car) × Product R I′ J t × (a ⊗ s ≡ b ⊗ t) → (h : Car) × Product R I′ J h × (a ⊗ g ≡ b ⊗ h)
-      go (h, ih, q) (t, pt, q′) =
-          (h ⊗ y ⊕ t, more ih jy pt refl, ap (λ z. a ⊗ z) e ∙ R .mul-add a (x ⊗ y) s ∙ rw q′ (sym (R .mul-add b (h ⊗ y) t ∙ ap (λ z. z ⊕ b ⊗ t) (sym (R .mul-assoc b h y) ∙ ap (λ z. z ⊗ y) (sym q) ∙ R .mul-assoc a x y))))
+      go (h, ih, q) (t, pt, q′) = (
+        h ⊗ y ⊕ t,
+        more ih jy pt refl,
+        ap (λ z. a ⊗ z) e ∙ R .mul-add a (x ⊗ y) s
+            ∙ rw q′ (sym (R .mul-add b (h ⊗ y) t ∙ ap (λ z. z ⊕ b ⊗ t) (sym (R .mul-assoc b h y) ∙ ap (λ z. z ⊗ y) (sym q) ∙ R .mul-assoc a x y))),
+      )
 
   back-product : {I I′ J : Car → Type 0} {a b : Car} → ((h : Car) → I′ h → (g : Car) × I g × (a ⊗ g ≡ b ⊗ h)) → {h : Car} → Product R I′ J h
       → (g : Car) × Product R I J g × (a ⊗ g ≡ b ⊗ h)

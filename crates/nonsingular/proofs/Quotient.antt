@@ -58,7 +58,8 @@ module _ {k : CommRing} (C : Curve k) where
       y ⊠ y ⊠ y ⊞ a0 ⊠ (x ⊠ x ⊠ x ⊠ x) ⊞ c8 ⊠ (x ⊠ y ⊠ y) ⊞ c7 ⊠ (x ⊠ x ⊠ y) ⊞ c6 ⊠ (x ⊠ x ⊠ x) ⊞ c5 ⊠ (y ⊠ y) ⊞ c4 ⊠ (x ⊠ y) ⊞ c3 ⊠ (x ⊠ x) ⊞ c2 ⊠ y ⊞ c1 ⊠ x ⊞ c0)
       (λ x y a0 c0 c1 c2 c3 c4 c5 c6 c7 c8.
       y ⊠ y ⊠ y ⊞ (c5 ⊞ x ⊠ (c8 ⊞ x ⊠ nil)) ⊠ (y ⊠ y) ⊞ (c2 ⊞ x ⊠ (c4 ⊞ x ⊠ (c7 ⊞ x ⊠ nil))) ⊠ y ⊞ (c0 ⊞ x ⊠ (c1 ⊞ x ⊠ (c3 ⊞ x ⊠ (c6 ⊞ x ⊠ (a0 ⊞ x ⊠ nil))))))
-      tt (P.x k) (P.y k) (scalar k (C .a0)) (scalar k (C .c0)) (scalar k (C .c1)) (scalar k (C .c2)) (scalar k (C .c3)) (scalar k (C .c4)) (scalar k (C .c5)) (scalar k (C .c6)) (scalar k (C .c7)) (scalar k (C .c8))
+      tt (P.x k) (P.y k) (scalar k (C .a0)) (scalar k (C .c0)) (scalar k (C .c1)) (scalar k (C .c2)) (scalar k (C .c3)) (scalar k (C .c4))
+      (scalar k (C .c5)) (scalar k (C .c6)) (scalar k (C .c7)) (scalar k (C .c8))
       ∙ sym (λ i. P.y k ·ₚ P.y k ·ₚ P.y k +ₚ const-t2 i ·ₚ (P.y k ·ₚ P.y k) +ₚ const-t1 i ·ₚ P.y k +ₚ const-t0 i)
 
   y-cubed : y C ⊗ (y C ⊗ y C) ≡ ⊖ (in-x C (t2 C) ⊗ (y C ⊗ y C) ⊕ in-x C (t1 C) ⊗ y C ⊕ in-x C (t0 C))

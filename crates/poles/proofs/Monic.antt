@@ -61,5 +61,8 @@ module _ (K : Field) (C : Curve (K .ring)) (nonzero : ¬ (C .a0 ≡ K .ring .zer
   coefficient-monic {g} {n} p e z =
       record {
         pole = p;
-        rest = subst (λ (v : El). Below C n (g ⊕ ⊖ v)) (ap (λ c. constant C c ⊗ mono C n) e ∙ ap (λ v. v ⊗ mono C n) (constant-one C) ∙ L.one-mul (Coordinate C) (mono C n)) (split C (coefficient-below C (suc n) g z));
+        rest =
+            subst (λ (v : El). Below C n (g ⊕ ⊖ v))
+            (ap (λ c. constant C c ⊗ mono C n) e ∙ ap (λ v. v ⊗ mono C n) (constant-one C) ∙ L.one-mul (Coordinate C) (mono C n))
+            (split C (coefficient-below C (suc n) g z));
       }

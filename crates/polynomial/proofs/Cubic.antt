@@ -17,7 +17,8 @@ use Rattle.algebra.proofs.Solve.{_⊞_, _⊠_, ⊟_, solve}
 use Rattle.polynomial.specs.Poly.{Poly, coef, poly-path, const, X}
 use Rattle.polynomial.specs.Deriv.{numeral, deriv}
 use Rattle.polynomial.specs.Plane.{by-x}
-use Rattle.polynomial.proofs.Coef.{coef-add, coef-X-next, coef-const-mul, coef-const-head, coef-const-next, coef-one-head, coef-one-next, coef-split-head, coef-split-next, const-zero, const-add, const-neg, const-mul}
+use Rattle.polynomial.proofs.Coef.{coef-add, coef-X-next, coef-const-mul, coef-const-head, coef-const-next, coef-one-head}
+use Rattle.polynomial.proofs.Coef.{coef-one-next, coef-split-head, coef-split-next, const-zero, const-add, const-neg, const-mul}
 use Rattle.polynomial.proofs.Deriv.{coef-deriv, numeral-one, deriv-zero, deriv-one}
 use Rattle.polynomial.proofs.Plane.{coef-by-x}
 
@@ -72,7 +73,9 @@ module _ (A : CommRing) where
   module _ (t0 t1 t2 : Car) where
     cubic-mul : (q : Pol) → q ·ₚ cubic t0 t1 t2 ≡ X A ·ₚ (X A ·ₚ (X A ·ₚ q)) +ₚ const A t2 ·ₚ (X A ·ₚ (X A ·ₚ q)) +ₚ const A t1 ·ₚ (X A ·ₚ q) +ₚ const A t0 ·ₚ q
     unfolding cubic
-    cubic-mul q = solve (Poly A) 5 (λ q y a b c. q ⊠ (y ⊠ y ⊠ y ⊞ c ⊠ (y ⊠ y) ⊞ b ⊠ y ⊞ a)) (λ q y a b c. y ⊠ (y ⊠ (y ⊠ q)) ⊞ c ⊠ (y ⊠ (y ⊠ q)) ⊞ b ⊠ (y ⊠ q) ⊞ a ⊠ q) tt q (X A) (const A t0) (const A t1) (const A t2)
+    cubic-mul q =
+        solve (Poly A) 5 (λ q y a b c. q ⊠ (y ⊠ y ⊠ y ⊞ c ⊠ (y ⊠ y) ⊞ b ⊠ y ⊞ a))
+        (λ q y a b c. y ⊠ (y ⊠ (y ⊠ q)) ⊞ c ⊠ (y ⊠ (y ⊠ q)) ⊞ b ⊠ (y ⊠ q) ⊞ a ⊠ q) tt q (X A) (const A t0) (const A t1) (const A t2)
 
     pub coef-cubic-mul : (q : Pol) (i : ℕ) → coef A (q ·ₚ cubic t0 t1 t2) (suc (suc (suc i))) ≡ coef A q i ⊕ t2 ⊗ coef A q (suc i) ⊕ t1 ⊗ coef A q (suc (suc i)) ⊕ t0 ⊗ coef A q (suc (suc (suc i)))
     coef-cubic-mul q i = ap (λ f. coef A f (suc (suc (suc i)))) (cubic-mul q) ∙ simp (coef-add A, coef-const-mul A, coef-X-next A)

@@ -42,7 +42,10 @@ module _ {A B : CommRing} (φ : RingMap A B) (b : B .Car) where
       ∙ solve B 5 (λ x y b u v. (x ⊞ y) ⊞ b ⊠ (u ⊞ v)) (λ x y b u v. (x ⊞ b ⊠ u) ⊞ (y ⊞ b ⊠ v)) tt (φ .map (a zero)) (φ .map (c zero)) b (horner φ b (tail A a) n) (horner φ b (tail A c) n)
 
   pub eval-add : (f g : Pol) → eval φ b (f +ₚ g) ≡ eval φ b f ⊕ eval φ b g
-  eval-add f g = ∥∥₁-elim (finite A f) (B .isSet _ _) (λ x. ∥∥₁-elim (finite A g) (B .isSet _ _) (λ y. go (x .0 + y .0) (bound-more A (x .0) (x .0 + y .0) (omega arith) (x .1)) (bound-more A (y .0) (x .0 + y .0) (omega arith) (y .1))))
+  eval-add f g =
+      ∥∥₁-elim (finite A f) (B .isSet _ _)
+      (λ x. ∥∥₁-elim (finite A g) (B .isSet _ _)
+      (λ y. go (x .0 + y .0) (bound-more A (x .0) (x .0 + y .0) (omega arith) (x .1)) (bound-more A (y .0) (x .0 + y .0) (omega arith) (y .1))))
     where
       go : (n : ℕ) → Bound A (coef A f) n → Bound A (coef A g) n → eval φ b (f +ₚ g) ≡ eval φ b f ⊕ eval φ b g
       go n p q =
@@ -94,7 +97,8 @@ module _ {A B : CommRing} (φ : RingMap A B) (b : B .Car) where
 
       step : (c : A .Car) (g : Pol) → eval φ b (const A k ·ₚ g) ≡ φ .map k ⊗ eval φ b g → eval φ b (const A k ·ₚ (const A c +ₚ X A ·ₚ g)) ≡ φ .map k ⊗ eval φ b (const A c +ₚ X A ·ₚ g)
       step c g h =
-          ap (eval φ b) (solve (Poly A) 4 (λ k c x g. k ⊠ (c ⊞ x ⊠ g)) (λ k c x g. k ⊠ c ⊞ x ⊠ (k ⊠ g)) tt (const A k) (const A c) (X A) g ∙ ap (λ z. z +ₚ X A ·ₚ (const A k ·ₚ g)) (sym (const-mul A k c)))
+          ap (eval φ b) (solve (Poly A) 4 (λ k c x g. k ⊠ (c ⊞ x ⊠ g)) (λ k c x g. k ⊠ c ⊞ x ⊠ (k ⊠ g)) tt (const A k) (const A c) (X A) g
+          ∙ ap (λ z. z +ₚ X A ·ₚ (const A k ·ₚ g)) (sym (const-mul A k c)))
           ∙ eval-split (A .mul k c) (const A k ·ₚ g) ∙ ap₂ (λ u v. u ⊕ b ⊗ v) (φ .map-mul k c) h
           ∙ solve B 4 (λ k c b v. k ⊠ c ⊞ b ⊠ (k ⊠ v)) (λ k c b v. k ⊠ (c ⊞ b ⊠ v)) tt (φ .map k) (φ .map c) b (eval φ b g)
           ∙ ap (λ v. φ .map k ⊗ v) (sym (eval-split c g))

@@ -64,5 +64,8 @@ module _ {A B : CommRing} (φ : RingMap A B) (b : B .Car) where
         there : eval φ b f ≡ 𝟘 → (q : Pol) × (f ≡ q ·ₚ cubic A t0 t1 t2)
         there e =
             let d = divide A t0 t1 t2 f in
-            let z = independent (d .0 .c0) (d .0 .c1) (d .0 .c2) (sym (eval-rest f d) ∙ e) in
-            (d .0 .quotient, d .1 ∙ (λ i. d .0 .quotient ·ₚ cubic A t0 t1 t2 +ₚ quadratic A (z .0 i) (z .1 i) (z .2 i)) ∙ ap (λ r. d .0 .quotient ·ₚ cubic A t0 t1 t2 +ₚ r) (quadratic-zero A) ∙ Poly A .add-zero _)
+            let z = independent (d .0 .c0) (d .0 .c1) (d .0 .c2) (sym (eval-rest f d) ∙ e) in (
+              d .0 .quotient,
+              d .1 ∙ (λ i. d .0 .quotient ·ₚ cubic A t0 t1 t2 +ₚ quadratic A (z .0 i) (z .1 i) (z .2 i))
+                  ∙ ap (λ r. d .0 .quotient ·ₚ cubic A t0 t1 t2 +ₚ r) (quadratic-zero A) ∙ Poly A .add-zero _,
+            )

@@ -42,7 +42,9 @@ module _ (A : CommRing) where
   infixl 60 _⊕_
   infixl 70 _⊗_
   pub product-next′ : (a b : Series A) (n : ℕ) → product A a b (suc n) ≡ a (suc n) ⊗ b zero ⊕ product A a (tail A b) n
-  product-next′ a b zero = product-next A a b zero ∙ ap (λ t. a zero ⊗ b (suc zero) ⊕ t) (product-head A (tail A a) b) ∙ add-comm _ _ ∙ ap (λ t. a (suc zero) ⊗ b zero ⊕ t) (sym (product-head A a (tail A b)))
+  product-next′ a b zero =
+      product-next A a b zero ∙ ap (λ t. a zero ⊗ b (suc zero) ⊕ t) (product-head A (tail A a) b) ∙ add-comm _ _
+      ∙ ap (λ t. a (suc zero) ⊗ b zero ⊕ t) (sym (product-head A a (tail A b)))
   product-next′ a b (suc n) =
       product-next A a b (suc n) ∙ ap (λ t. a zero ⊗ b (suc (suc n)) ⊕ t) (product-next′ (tail A a) b n)
       ∙ add-left-comm A _ _ _ ∙ ap (λ t. a (suc (suc n)) ⊗ b zero ⊕ t) (sym (product-next A a (tail A b) n))
