@@ -1,7 +1,8 @@
 -- Sequences moved to higher places, and products with a polynomial whose coefficients are listed.
 --   back A d f n       f at the place n − d; 0 where n is below d
 --   back-low back-high its values below d and from d on
---   weigh A cs f       c₀·f + c₁·(f moved by 1) + c₂·(f moved by 2) + …
+--   back-vanish        it is 0 at n if f is 0 at n − d
+--   weigh A cs f       c₀·f + c₁·(f moved by 1) + c₂·(f moved by 2) + …; weigh-from A d cs f starts with f moved by d
 --   weigh-vanish       the sum is 0 if f is 0 at every place that it reads
 --   coef-ascending     the coefficients of (ascending cs)·f are those of weigh cs
 use mathlib.Core.Path.{_≡_, refl, sym, _∙_, ap, ap₂, fun-ext}
@@ -27,15 +28,15 @@ module _ (A : CommRing) where
   back (suc d) f zero = 𝟘
   back (suc d) f (suc n) = back d f n
 
-  pub back-none : (f : ℕ → Car) (n : ℕ) → back 0 f n ≡ f n
+  back-none : (f : ℕ → Car) (n : ℕ) → back 0 f n ≡ f n
   unfolding back
   back-none f n = refl
 
-  pub back-first : (d : ℕ) (f : ℕ → Car) → back (suc d) f zero ≡ 𝟘
+  back-first : (d : ℕ) (f : ℕ → Car) → back (suc d) f zero ≡ 𝟘
   unfolding back
   back-first d f = refl
 
-  pub back-next : (d : ℕ) (f : ℕ → Car) (n : ℕ) → back (suc d) f (suc n) ≡ back d f n
+  back-next : (d : ℕ) (f : ℕ → Car) (n : ℕ) → back (suc d) f (suc n) ≡ back d f n
   unfolding back
   back-next d f n = refl
 
@@ -49,7 +50,7 @@ module _ (A : CommRing) where
   back-high (suc d) f n = ap (back (suc d) f) (N.suc-add d n) ∙ back-next d f (d + n) ∙ back-high d f n
 
   -- moving by 1 first
-  pub back-back : (d : ℕ) (f : ℕ → Car) (n : ℕ) → back d (back 1 f) n ≡ back (suc d) f n
+  back-back : (d : ℕ) (f : ℕ → Car) (n : ℕ) → back d (back 1 f) n ≡ back (suc d) f n
   back-back zero f n = back-none (back 1 f) n
   back-back (suc d) f zero = back-first d (back 1 f) ∙ sym (back-first (suc d) f)
   back-back (suc d) f (suc n) = back-next d (back 1 f) n ∙ back-back d f n ∙ sym (back-next (suc d) f n)

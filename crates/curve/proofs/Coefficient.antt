@@ -1,11 +1,12 @@
 -- The coefficients of sums and products in the coordinate ring.
---   at-zero at-add at-neg at-one-j       of the ring's operations
+--   at-zero at-add at-neg                of the ring's operations
+--   at-constant-x at-constant-y at-one-0 at-one-x at-one-y      of constants and of 1
 --   at-ext             elements with the same coefficients are equal
 --   at-constant-mul    of a constant times g
 --   at-x-first at-x-next                 of x·g
 --   at-y-0 at-y-1 at-y-2                 of y·g, with −(t2·y² + t1·y + t0) for y³
 --   in-x-zero in-x-one in-x-add in-x-mul     polynomials in x are a subring
---   constant-zero … constant-mul         and so are constants
+--   constant-zero constant-one constant-add constant-neg constant-mul      and so are constants
 use mathlib.Core.Path.{_≡_, sym, _∙_, ap}
 use mathlib.Core.List.{[], _∷_}
 use Prim.Native.Nat.{ℕ, zero, suc, _≤_}
@@ -132,7 +133,7 @@ module _ {k : CommRing} (C : Curve k) where
   constant-mul a b = ap (in-x C) (P.const-mul k a b) ∙ M.embed-mul k[x] (t0 C) (t1 C) (t2 C) _ _
 
   -- the coefficients of a constant
-  pub at-constant-0 : (c : Car) → at C 0 0 (constant C c) ≡ c
+  at-constant-0 : (c : Car) → at C 0 0 (constant C c) ≡ c
   unfolding Coordinate part at in-x constant
   at-constant-0 c =
       ap (λ f. coef k f 0) (M.component-embed-0 k[x] (t0 C) (t1 C) (t2 C) (const k c)) ∙ P.coef-const-head k c

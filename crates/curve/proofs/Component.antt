@@ -21,13 +21,13 @@ module _ (A : CommRing) (t0 t1 t2 : A .Car) where
   infixl 60 _⊕_ _+ₐ_
   infixl 70 _⊗_ _·ₐ_
   infix 80 ⊖_ -ₐ_
-  abbrev pub part : ℕ → El → Car
+  abbrev part : ℕ → El → Car
   part = component A t0 t1 t2
 
-  abbrev pub emb : Car → El
+  abbrev emb : Car → El
   emb = embed A t0 t1 t2
 
-  abbrev pub 𝕪 : El
+  abbrev 𝕪 : El
   𝕪 = y A t0 t1 t2
 
   pub normal-path : {g h : El} → part 0 g ≡ part 0 h → part 1 g ≡ part 1 h → part 2 g ≡ part 2 h → g ≡ h
@@ -81,10 +81,10 @@ module _ (A : CommRing) (t0 t1 t2 : A .Car) where
   component-embed-next (suc zero) a = refl
   component-embed-next (suc (suc j)) a = refl
 
-  pub component-embed-1 : (a : Car) → part 1 (emb a) ≡ 𝟘
+  component-embed-1 : (a : Car) → part 1 (emb a) ≡ 𝟘
   component-embed-1 a = component-embed-next 0 a
 
-  pub component-embed-2 : (a : Car) → part 2 (emb a) ≡ 𝟘
+  component-embed-2 : (a : Car) → part 2 (emb a) ≡ 𝟘
   component-embed-2 a = component-embed-next 1 a
 
   pub component-scale : (j : ℕ) (a : Car) (g : El) → part j (emb a ⊗ g) ≡ a ·ₐ part j g
@@ -126,16 +126,16 @@ module _ (A : CommRing) (t0 t1 t2 : A .Car) where
   unfolding y
   triple-y = refl
 
-  pub y-0 : part 0 𝕪 ≡ 𝟘
+  y-0 : part 0 𝕪 ≡ 𝟘
   y-0 = ap (part 0) triple-y ∙ component-triple-0 𝟘 𝟙 𝟘
 
-  pub y-1 : part 1 𝕪 ≡ 𝟙
+  y-1 : part 1 𝕪 ≡ 𝟙
   y-1 = ap (part 1) triple-y ∙ component-triple-1 𝟘 𝟙 𝟘
 
-  pub y-2 : part 2 𝕪 ≡ 𝟘
+  y-2 : part 2 𝕪 ≡ 𝟘
   y-2 = ap (part 2) triple-y ∙ component-triple-2 𝟘 𝟙 𝟘
 
-  pub y-squared : 𝕪 ⊗ 𝕪 ≡ triple A t0 t1 t2 𝟘 𝟘 𝟙
+  y-squared : 𝕪 ⊗ 𝕪 ≡ triple A t0 t1 t2 𝟘 𝟘 𝟙
   y-squared =
       normal-path (simp (component-y-0, component-triple-0, y-2, L.mul-zero, L.neg-zero)) (simp (component-y-1, component-triple-1, y-0, y-2, L.mul-zero, L.neg-zero, A .add-zero))
       (simp (component-y-2, component-triple-2, y-1, y-2, L.mul-zero, L.neg-zero, A .add-zero))

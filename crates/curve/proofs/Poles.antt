@@ -1,6 +1,7 @@
 -- What makes the filtration of the coordinate ring of a curve over a field pole numbers in the sense of crates/ideal.
 --   no-zero-divisors   a product of two nonzero elements of a field is not zero
 --   twist-nonzero      the factor at the top of a product is not zero
+--   lead-nonzero       the coefficient at the lead is not zero
 --   below-constant     a constant has no monomial but 1
 --   below-some         every element has a bound of its pole numbers
 --   below-dec          it is decidable whether n is one
@@ -32,7 +33,7 @@ no-zero-divisors K a b e n =
     let i : K .ring .mul (K .ring .mul a (K .inv a)) b ≡ K .ring .mul (K .inv a) (K .ring .mul a b) = cc (K .ring .mul-comm a (K .inv a), K .ring .mul-assoc (K .inv a) a b) in
     cc (i, e, K .mul-inv a n, L.one-mul (K .ring) b, L.mul-zero (K .ring) (K .inv a))
 
-pub neg-nonzero : (R : CommRing) (a : R .Car) → ¬ (a ≡ R .zero) → ¬ (R .neg a ≡ R .zero)
+neg-nonzero : (R : CommRing) (a : R .Car) → ¬ (a ≡ R .zero) → ¬ (R .neg a ≡ R .zero)
 neg-nonzero R a n e = n (sym (L.neg-neg R a) ∙ ap (R .neg) e ∙ L.neg-zero R)
 
 pub below-constant : {k : CommRing} (C : Curve k) (c : k .Car) → Below C 1 (constant C c)

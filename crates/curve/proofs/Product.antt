@@ -61,7 +61,7 @@ module _ {k : CommRing} (C : Curve k) where
       go (place i j l e) = top-cast (sym (mono-monomial i j l) ∙ ap (mono C) (sym e)) (sym e) (top-monomial i j l)
       go (gap d) = absurd (p d)
 
-  pub below-one : Below C 1 𝟏
+  below-one : Below C 1 𝟏
   below-one = record { vanish = go }
     where
       go : (i j : ℕ) → j ≤ 2 → 1 ≤ pole i j → at C i j 𝟏 ≡ 𝟘
@@ -70,7 +70,7 @@ module _ {k : CommRing} (C : Curve k) where
       go zero (suc j) l h = at-one-y C 0 j
       go (suc i) (suc j) l h = at-one-y C (suc i) j
 
-  pub coefficient-one : coefficient C 0 𝟏 ≡ 𝟙
+  coefficient-one : coefficient C 0 𝟏 ≡ 𝟙
   coefficient-one = coefficient-pole C 0 0 (omega arith) 𝟏 ∙ at-one-0 C
 
   pub below-mono : (n : ℕ) → IsPole n → Below C (suc n) (mono C n)

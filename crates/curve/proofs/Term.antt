@@ -5,6 +5,7 @@
 --   coefficient-zero coefficient-add coefficient-neg coefficient-constant-mul     it is linear
 --   coefficient-vector the coefficients of vector f are f
 --   coefficient-x-low, coefficient-x-high     x moves coefficients by 3
+--   pick-true, pick-false      the two values of pick
 use mathlib.Core.Path.{_≡_, refl, sym, _∙_, ap, ap₂}
 use mathlib.Core.Bool.{Bool, true, false}
 use mathlib.Core.Logic.{inl, inr}

@@ -18,7 +18,7 @@ module _ {k : CommRing} (C : Curve k) where
   infixl 60 _⊕_ _+ₖ_
   infixl 70 _⊗_ _·ₖ_
   infix 80 -ₖ_
-  abbrev pub Ends : (ℕ → Car) → ℕ → Type 0
+  abbrev Ends : (ℕ → Car) → ℕ → Type 0
   Ends f N = (n : ℕ) → N ≤ n → f n ≡ 𝟘
 
   pub vector-is : (f : ℕ → Car) (N : ℕ) (h : Ends f N) (g : El) → ((n : ℕ) → IsPole n → coefficient C n g ≡ f n) → g ≡ vector C f N h

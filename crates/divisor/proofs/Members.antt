@@ -5,8 +5,9 @@
 --   member-monic, member-pole      the member in class j is monic, with the pole number degree κ j
 --   Spanned κ n            the span of the members over k[x]
 --   reached-lead, lead-reached     its leads are the numbers that the kind reaches
---   spanned-space, spanned-based, spanned-each
+--   spanned-space, spanned-based, spanned-each, spanned-in     it is a based space, holds the members, and lies in each ideal that does
 --   spanned-ideal-of       it lies in the ideal of the record
+--   poles-mono             the monomials of the interface are the normal monomials
 use mathlib.Core.Path.{_≡_, refl, sym, _∙_, ap₂, subst}
 use mathlib.Core.List.{List, [], _∷_}
 use mathlib.Core.Logic.{_⊎_, inl, inr, ⊎-elim}
@@ -105,7 +106,7 @@ module _ (K : Field) (C : Curve (K .ring)) (nonzero : ¬ (C .a0 ≡ K .ring .zer
       (coefficient-monic K C nonzero (pole-test-pole d w) (coefficient-terms C ((𝟙, d) ∷ ts) t d ∙ pick-true (eqb d d) 𝟙 _ (eqb-refl d)) (λ m h. terms-top C ((𝟙, d) ∷ ts) (suc d) m t u h))
 
   -- y times a monic element is monic unless y³ comes up
-  pub monic-y : {g : El} (n : ℕ) → n % 3 ≤ 1 → Monic P g n → Monic P (y C ⊗ g) (4 + n)
+  monic-y : {g : El} (n : ℕ) → n % 3 ≤ 1 → Monic P g n → Monic P (y C ⊗ g) (4 + n)
   monic-y {g} n l m = go (monic-coefficient K C nonzero m)
     where
       go : IsPole n × (coefficient C n g ≡ 𝟙) × ((m : ℕ) → n < m → coefficient C m g ≡ 𝟘) → Monic P (y C ⊗ g) (4 + n)

@@ -26,7 +26,7 @@ use Rattle.divisor.proofs.Members.{member, Spanned, spanned-space, span
 use Rattle.divisor.proofs.Basis.{Closed, closed-same, closed-basis}
 
 -- a pole number that the kind does not reach is one of the remaining
-pub remaining-find : (κ : Kind) (Q : ℕ → Type 0) → Every Q (remaining-poles κ) → (m : ℕ) → IsPole m → ¬ Reached κ m → Q m
+remaining-find : (κ : Kind) (Q : ℕ → Type 0) → Every Q (remaining-poles κ) → (m : ℕ) → IsPole m → ¬ Reached κ m → Q m
 remaining-find κ Q qs m p h = go (remaining-poles κ) qs (λ t. h (absent-reached κ m p t))
   where
     go : (ps : List ℕ) → Every Q ps → ¬ T (absent m ps) → Q m

@@ -8,6 +8,7 @@
 --   reached-absent, absent-reached     a pole number is reached exactly if it does not remain
 --   Row, rows κ            a polynomial: the pole number of its lead, and for each lower term the number's place in the record and the pole number
 --   row-terms n r, row-value n r       its terms with the numbers n, and their sum
+--   row, poles-of, fill    a row given by its parts, the pole numbers of its lower terms, these terms with the numbers n
 --   one-term, two-terms, three-terms   sums with so many numbers, as document 01 writes them, are sums of terms
 --   polynomials-rows       the polynomials of a record are those of its rows
 --   remaining-monos        the remaining monomials are those of remaining-poles κ

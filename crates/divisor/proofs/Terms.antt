@@ -1,13 +1,16 @@
 -- Sums of constant multiples of normal monomials, given as a list of pairs: y + a·x + b is terms ((1, 4) ∷ (a, 3) ∷ (b, 0) ∷ []).
+--   Terms                      lists of pairs of a constant and a pole number
 --   terms ts                   the sum of constant a·mono p for the pairs (a, p) of ts
 --   find m ts                  the a that stands with m in ts; 0 if none does
 --   places ts                  the p of ts
 --   absent m ps                test: m is not in ps
+--   pole-test n, pole-test-pole    test: n is a pole number
 --   distinct ps                test: the ps are pole numbers, and no two agree
+--   find-absent                nothing is found at a place that is not in ts
 --   coefficient-terms          the coefficients of terms ts are found in ts
 --   below ps d                 test: the ps are below d
 --   terms-top                  … then terms ts has no coefficient from d on
---   Within ps h                h has no coefficient outside the places ps
+--   Within ps h, within-neg    h has no coefficient outside the places ps; nor has −h
 --   reading ps h, reading-terms    h at the places ps; h is the sum of these terms if it has no others
 --   made-within, within-made   MadeOf and Within say the same of the monomials of ps
 use mathlib.Core.Path.{_≡_, refl, sym, _∙_, ap, ap₂, subst}
@@ -136,7 +139,7 @@ module _ {k : CommRing} (C : Curve k) where
   abbrev pub Within : List ℕ → El → Type 0
   Within ps h = (m : ℕ) → T (absent m ps) → coefficient C m h ≡ 𝟘
 
-  pub terms-within : (ts : Terms) → T (distinct (places ts)) → Within (places ts) (terms ts)
+  terms-within : (ts : Terms) → T (distinct (places ts)) → Within (places ts) (terms ts)
   terms-within ts t m u = coefficient-terms ts t m ∙ find-absent m ts u
 
   pub within-neg : (ps : List ℕ) (h : El) → Within ps h → Within ps (⊖ h)
@@ -147,7 +150,7 @@ module _ {k : CommRing} (C : Curve k) where
   reading [] h = []
   reading (p ∷ ps) h = (coefficient C p h, p) ∷ reading ps h
 
-  pub reading-places : (ps : List ℕ) (h : El) → places (reading ps h) ≡ ps
+  reading-places : (ps : List ℕ) (h : El) → places (reading ps h) ≡ ps
   reading-places [] h = refl
   reading-places (p ∷ ps) h = ap (λ qs. p ∷ qs) (reading-places ps h)
 

@@ -8,6 +8,7 @@
 --   31              40      f0, f1, f2, g0, …, h2 x² + f2·y + f1·x + f0; xy + g2·y + g1·x + g0; y² + h2·y + h1·x + h0     1, x, y
 --
 --   Kind, code κ, count κ       the five kinds, the kind's number, how many numbers its record has
+--   size κ                      how many bytes its record has
 --   polynomials C κ n           the polynomials of a record
 --   remaining C κ               the remaining monomials
 --   IdealOf C κ n               the ideal that the polynomials generate in the ring

@@ -56,7 +56,7 @@ el-same p a b e = sym (el-mod p a) ∙ ap (el p) e ∙ el-mod p b
 pub el-self : (p : ℕ) → el p p ≡ Z p .zero
 el-self p = el-same p p 0 (mod-self p ∙ sym (zero-mod p)) ∙ el-zero p
 
-pub num-lt-modulus : (p : ℕ) (x : Z p .Car) → num p x < modulus p
+num-lt-modulus : (p : ℕ) (x : Z p .Car) → num p x < modulus p
 unfolding Z Zmod num
 num-lt-modulus p x = x .1
 

@@ -10,7 +10,7 @@ use Rattle.field.proofs.Element.{el-add, el-zero, el-self, el-neg, el-s
 use Rattle.field.specs.Contract.{Is}
 
 -- el (r + p) = el r
-pub el-turn : (p r : ℕ) → el p (r + p) ≡ el p r
+el-turn : (p r : ℕ) → el p (r + p) ≡ el p r
 el-turn p r = el-add p r p ∙ ap (Z p .add (el p r)) (el-self p) ∙ Z p .add-zero _
 
 module _ (p a b : ℕ) where

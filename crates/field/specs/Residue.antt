@@ -1,6 +1,6 @@
 -- The ring of residues modulo p, for every p, and the residue of a number.
 --   Zmod m pos         the ring of the numbers below m, with sums and products modulo m, for 0 < m
---   modulus p          p where p is not zero, and 1 otherwise
+--   modulus p          p where p is not zero, and 1 otherwise; it is positive (modulus-pos)
 --   Z p                Zmod (modulus p)
 --   el p n             the residue of n modulo p
 --   num p x            the number below p that x is the residue of

@@ -133,7 +133,7 @@ module _ {R : CommRing} (P : Poles R) where
   product-equivalent-left e =
       record { a = e .a; b = e .b; a-nonzero = e .a-nonzero; b-nonzero = e .b-nonzero; there = λ g. there-product (e .there); back = λ h. back-product (e .back) }
 
-  pub product-equivalent-right : {I J J′ : Car → Type 0} → Equivalent R J J′ → Equivalent R (Product R I J) (Product R I J′)
+  product-equivalent-right : {I J J′ : Car → Type 0} → Equivalent R J J′ → Equivalent R (Product R I J) (Product R I J′)
   product-equivalent-right e =
       equivalent-trans P (equivalent-same P (product-comm R)) (equivalent-trans P (product-equivalent-left e) (equivalent-same P (product-comm R)))
 

@@ -72,7 +72,7 @@ module _ {k : CommRing} (C : Curve k) where
       solve-from (Coordinate C) 4 (λ y a b c. given unit (y ⊠ (y ⊠ y)) (⊟ (c ⊠ (y ⊠ y) ⊞ b ⊠ y ⊞ a)) ∷ []) (λ y a b c. y ⊠ y ⊠ y ⊞ c ⊠ (y ⊠ y) ⊞ b ⊠ y ⊞ a) (λ y a b c. nil) tt
       (y C) (in-x C (t0 C)) (in-x C (t1 C)) (in-x C (t2 C)) (y-cubed, tt)
 
-  pub at-spread : (g : El) → K.at-quadratic (over-x C) (y C) (part C 0 g) (part C 1 g) (part C 2 g) ≡ g
+  at-spread : (g : El) → K.at-quadratic (over-x C) (y C) (part C 0 g) (part C 1 g) (part C 2 g) ≡ g
   unfolding Coordinate in-x y part
   at-spread g = sym (M.spread (Poly k) (t0 C) (t1 C) (t2 C) g)
 

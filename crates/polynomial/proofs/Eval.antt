@@ -89,7 +89,7 @@ module _ {A B : CommRing} (φ : RingMap A B) (b : B .Car) where
   pub eval-X : eval φ b (X A) ≡ b
   eval-X = ap (eval φ b) (sym (Poly A .mul-one (X A))) ∙ eval-X-mul 𝟏 ∙ ap (λ v. b ⊗ v) eval-one ∙ B .mul-one b
 
-  pub eval-const-mul : (k : A .Car) (g : Pol) → eval φ b (const A k ·ₚ g) ≡ φ .map k ⊗ eval φ b g
+  eval-const-mul : (k : A .Car) (g : Pol) → eval φ b (const A k ·ₚ g) ≡ φ .map k ⊗ eval φ b g
   eval-const-mul k = induct A (λ g. eval φ b (const A k ·ₚ g) ≡ φ .map k ⊗ eval φ b g) (λ g. B .isSet _ _) start step
     where
       start : eval φ b (const A k ·ₚ 𝟎) ≡ φ .map k ⊗ eval φ b 𝟎

@@ -1,6 +1,7 @@
 -- A[Y] modulo a monic cubic F: a ring map φ from A to B and an element b of B at which F vanishes, 1, b and b² independent over A.
 -- Then evaluation at b has the multiples of F for its kernel, and what 1, b and b² span for its image.
---   eval-quadratic eval-cubic      values of quadratic polynomials and of F at b
+--   at-quadratic at-cubic          φ a0 + φ a1·b + φ a2·b², and the same of F
+--   eval-quadratic eval-cubic      they are the values of quadratic polynomials and of F at b
 --   Independent φ b                φ a0 + φ a1·b + φ a2·b² is zero only for a0 = a1 = a2 = 0
 --   eval-rest                      the value of f is that of its rest modulo F
 --   kernel                         f vanishes at b exactly if it is a multiple of F

@@ -2,7 +2,7 @@
 -- so two polynomials are equal if their coefficients are. Example: X² + 3 is 3, 0, 1, 0, 0, …
 --   Poly A             the ring of polynomials over A; shut, so that one reasons by its laws and by coefficients
 --   coef A f i         the coefficient of f at the i-th power of the variable
---   poly A a h         the polynomial with the coefficients a
+--   poly A a h         the polynomial with the coefficients a; finite A f: those of f vanish from some place on
 --   const A k          the polynomial k
 --   X A                the variable
 --   poly-path          polynomials with the same coefficients are equal

@@ -1,6 +1,6 @@
 -- Series that vanish from some place on: sums, negatives, products, constants, shifts and tails of such series are such series.
 --   bound-more                 a bound may rise
---   bound-tail                 the tail has a bound one less
+--   bound-add, bound-tail      sums; the tail has a bound one less
 --   finite-add finite-neg finite-product finite-constant finite-shift finite-tail
 --   finite-times               each coefficient times one of another series
 --   finite-each                h applied to each coefficient, for a map h that takes 0 to 0
@@ -25,21 +25,21 @@ module _ (A : CommRing) where
   pub bound-add : (a b : Series A) (n : ℕ) → Bound A a n → Bound A b n → Bound A (λ i. a i ⊕ b i) n
   bound-add a b n p q i h = ap₂ _⊕_ (p i h) (q i h) ∙ add-zero 𝟘
 
-  pub bound-neg : (a : Series A) (n : ℕ) → Bound A a n → Bound A (λ i. ⊖ a i) n
+  bound-neg : (a : Series A) (n : ℕ) → Bound A a n → Bound A (λ i. ⊖ a i) n
   bound-neg a n p i h = ap ⊖_ (p i h) ∙ neg-zero A
 
   pub bound-tail : (a : Series A) (n : ℕ) → Bound A a (suc n) → Bound A (tail A a) n
   bound-tail a n p i h = p (suc i) (suc-le-suc h)
 
-  pub bound-constant : (k : Car) → Bound A (constant A k) 1
+  bound-constant : (k : Car) → Bound A (constant A k) 1
   bound-constant k zero h = absurd (omega arith)
   bound-constant k (suc i) h = constant-next A k i
 
-  pub bound-shift : (a : Series A) (n : ℕ) → Bound A a n → Bound A (shift A a) (suc n)
+  bound-shift : (a : Series A) (n : ℕ) → Bound A a n → Bound A (shift A a) (suc n)
   bound-shift a n p zero h = absurd (omega arith)
   bound-shift a n p (suc i) h = shift-next A a i ∙ p i (omega arith)
 
-  pub bound-product : (m : ℕ) (a b : Series A) (n : ℕ) → Bound A a m → Bound A b n → Bound A (product A a b) (m + n)
+  bound-product : (m : ℕ) (a b : Series A) (n : ℕ) → Bound A a m → Bound A b n → Bound A (product A a b) (m + n)
   bound-product zero a b n p q i h = zero-product A a b (λ j. p j (omega arith)) i
   bound-product (suc m) a b n p q zero h = absurd (omega arith)
   bound-product (suc m) a b n p q (suc i) h =

@@ -1,6 +1,7 @@
 -- Decimal numbers: by their last digit, and how many digits there are.
 --   decimal-small, decimal-large    a number below 10; any other by its last digit and the rest
 --   ten-digits       ten digits at most below 2³²
+--   length-large     a number from 10 on has one digit more than a tenth of it
 use mathlib.Core.Path.{_≡_, refl, sym, ap, _∙_}
 use mathlib.Core.List.{List, [], _∷_, _++_}
 use Prim.Native.Nat.{ℕ, zero, suc, _+_, _*_, _/_, _%_, _≤_, _<_}

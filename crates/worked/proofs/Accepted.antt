@@ -8,6 +8,7 @@
 --   Fault              why a record of its kind's form is refused: a number not below p; or no basis, and how 1 is made of its polynomials
 --   Spoilt             certificate of a refused record: its kind and its fault
 --   spoilt c w n k     the test; spoilt-sound: the record w is refused with n, which is 8 or 9
+--   numbers-of         the numbers of a record in bytes
 use mathlib.Core.Path.{_≡_, refl, sym, subst}
 use mathlib.Core.Logic.{inl, inr}
 use mathlib.Core.Bool.{Bool}

@@ -4,9 +4,11 @@
 --   values-polynomials, values-members     they are the record's
 --   combine es qs                          the sum of the products q·e
 --   generated-combine                      it is in the ideal that the es generate
+--   ideal-combine                          and so for the ideal of a record
 --   closed p n κ m qss                     the test that the span of the members is closed under y; basis-sound: then the record is a basis
 --   whole p n κ m qs                       the test that 1 is in the ideal of a record of a kind but 0; whole-sound: then it is no basis
 --   one-basis                              1 is not in the ideal of a basis of a kind but 0
+--   proper κ                               test: κ is a kind but 0
 use mathlib.Core.Path.{_≡_, refl, sym, _∙_, ap, subst}
 use mathlib.Core.Bool.{Bool, true, false}
 use mathlib.Core.List.{List, [], _∷_}
@@ -47,7 +49,7 @@ module _ {A : Type 0} (O : Ops A) (x y : A) where
 
   infixl 60 _+_
   infixl 70 _·_
-  abbrev pub polynomials-over : Kind → (ℕ → A) → List A
+  abbrev polynomials-over : Kind → (ℕ → A) → List A
   polynomials-over k0 n = O .one ∷ []
   polynomials-over k11 n = (x + n 0) ∷ (y + n 1) ∷ []
   polynomials-over k21 n = (y + n 1 · x + n 0) ∷ (x · x + n 3 · x + n 2) ∷ []
@@ -55,7 +57,7 @@ module _ {A : Type 0} (O : Ops A) (x y : A) where
   polynomials-over k31 n =
       (x · x + n 2 · y + n 1 · x + n 0) ∷ (x · y + n 5 · y + n 4 · x + n 3) ∷ (y · y + n 8 · y + n 7 · x + n 6) ∷ []
 
-  abbrev pub members-over : Kind → (ℕ → A) → List A
+  abbrev members-over : Kind → (ℕ → A) → List A
   members-over k0 n = O .one ∷ y ∷ y · y ∷ []
   members-over k11 n = (x + n 0) ∷ (y + n 1) ∷ y · (y + n 1) ∷ []
   members-over k21 n = (x · x + n 3 · x + n 2) ∷ (y + n 1 · x + n 0) ∷ y · (y + n 1 · x + n 0) ∷ []

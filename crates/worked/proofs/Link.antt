@@ -6,6 +6,7 @@
 --   products-xy gs hs      the products of one expression from each list; values-products
 --   Link                   the certificate
 --   link c a b w κs k      the test; sum-sound: w is the sum of a and b
+--   polynomials-of κ w     the polynomials of a record in bytes as expressions; ideal-values: they generate its ideal
 use mathlib.Core.Path.{_≡_, refl, sym, _∙_, ap, ap₂, subst}
 use mathlib.Core.Bool.{Bool, true}
 use mathlib.Core.List.{List, [], _∷_, _++_, map}

@@ -1,7 +1,7 @@
 -- Tests by computation, and what they show.
---   below p f k        f 0, …, f (k − 1) are below p
---   prime p            p is a prime
---   bytes s            every element of s is below 256
+--   below p f k        test: f 0, …, f (k − 1) are below p; below-sound: then they are
+--   prime p            test: p is a prime; prime-sound
+--   bytes s            test: every element of s is below 256; bytes-sound
 use mathlib.Core.Path.{_≡_}
 use mathlib.Core.Bool.{Bool, true}
 use mathlib.Core.Logic.{_⊎_, inl, inr}

@@ -8,6 +8,7 @@
 --   vanishes p n e     the test that e is zero; vanish-sound: then it is
 --   agree p n e e′     the test that e and e′ are equal; agree-sound
 --   divide             division of a normal form by the cubic: quotient and rest
+--   Division           its result
 use mathlib.Core.Path.{_≡_, sym, _∙_, ap, ap₂}
 use mathlib.Core.Bool.{Bool}
 use mathlib.Core.List.{[], _∷_}
