@@ -7,7 +7,7 @@
 --   sub-zero→eq, eq→sub-zero                a ⊕ ⊖ b ≡ 0 is a ≡ b
 --   sums               rule set for simp: sums and negatives into one order, opposite terms cancelled
 --   ring               rule set for simp: products multiplied out too
-use mathlib.Core.Path.{_≡_, refl, sym, _∙_, ap}
+use mathlib.Core.Path.{_≡_, sym, _∙_}
 use Rattle.algebra.specs.Ring.{CommRing}
 
 module _ (R : CommRing) where

@@ -9,9 +9,9 @@
 --   plus, minus, times the operations on normal forms
 --   norm e             the normal form of e
 --   Same a b           the test, by computation, that norm a − norm b is zero everywhere; so a proof of it is tt
-use mathlib.Core.Bool.{Bool, true, false}
-use mathlib.Core.List.{List, [], _∷_}
+use mathlib.Core.Bool.{Bool, true}
 use Prim.Native.Nat.{ℕ, zero, suc, _+_, _*_}
+use Rattle.algebra.proofs.Test.{both}
 use lib.Dec.{T, eqb}
 use Rattle.algebra.specs.Ring.{Ops}
 
@@ -83,10 +83,6 @@ norm (sum a b) = plus (norm a) (norm b)
 norm (prod a b) = times (norm a) (norm b)
 norm (opp a) = minus (norm a)
 norm (pow a n) = power (norm a) n
-
-abbrev pub both : Bool → Bool → Bool
-both true b = b
-both false b = false
 
 abbrev pub is-zero : H → Bool
 is-zero z = true

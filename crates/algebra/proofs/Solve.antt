@@ -7,12 +7,12 @@
 -- (c) solve-from R n hs l r tt proves the same under hypotheses. hs lists them, each `given m a b` for the equation a ≡ b and the factor m
 --     with which it enters: l − r is the sum of m·(a − b). The proofs of the equations follow the values, as (e₁, (e₂, tt)).
 -- A call that is refused with `⊥` (expected) and `Unit` (found) at the tt states something false.
-use mathlib.Core.Path.{_≡_, refl, sym, _∙_, ap}
+use mathlib.Core.Path.{_≡_, refl, _∙_}
 use mathlib.Core.List.{List, [], _∷_}
 use Prim.Native.Nat.{ℕ, zero, suc}
 use Rattle.algebra.specs.Ring.{CommRing}
 use Rattle.algebra.proofs.Laws as L
-use Rattle.algebra.proofs.Norm.{E, var, num, sum, prod, opp, pow, Same}
+use Rattle.algebra.proofs.Norm.{E, var, sum, prod, opp, pow, Same}
 use Rattle.algebra.proofs.Sound.{value, same-value}
 
 infixl 60 _⊞_

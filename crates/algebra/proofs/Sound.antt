@@ -5,15 +5,15 @@
 --   at-plus, at-minus, at-times, value-norm      the operations on normal forms mean what they say
 --   same-value         Same a b gives value a ρ ≡ value b ρ
 use mathlib.Core.Path.{_≡_, refl, sym, _∙_, ap, ap₂}
-use mathlib.Core.Bool.{Bool, true, false}
 use mathlib.Core.List.{List, [], _∷_}
 use Prim.Native.Nat.{ℕ, zero, suc, _+_, _*_}
 use native.Mathlib.Nat as N
-use lib.Dec.{T, eqb, eqb→eq}
+use lib.Dec.{T, eqb→eq}
 use Rattle.algebra.specs.Ring.{CommRing}
 use Rattle.algebra.proofs.Laws as L
 use Rattle.algebra.proofs.Laws.{ring, sums}
-use Rattle.algebra.proofs.Norm.{E, var, num, nil, unit, sum, prod, opp, pow, H, z, con, cons, plus-con, plus, minus, times-con, times-tail, times, power, variable, norm, both, is-zero, Same}
+use Rattle.algebra.proofs.Test.{both-left, both-right}
+use Rattle.algebra.proofs.Norm.{E, var, num, nil, unit, sum, prod, opp, pow, H, z, con, cons, plus-con, plus, minus, times-con, times-tail, times, power, variable, norm, is-zero, Same}
 
 abbrev pub head : {A : Type 0} → A → List A → A
 head d [] = d
@@ -44,14 +44,6 @@ value R (sum a b) ρ = R .add (value R a ρ) (value R b ρ)
 value R (prod a b) ρ = R .mul (value R a ρ) (value R b ρ)
 value R (opp a) ρ = R .neg (value R a ρ)
 value R (pow a n) ρ = raise R (value R a ρ) n
-
-both-left : (a b : Bool) → T (both a b) → T a
-both-left true b t = tt
-both-left false b t = t
-
-both-right : (a b : Bool) → T (both a b) → T b
-both-right true b t = t
-both-right false b t = absurd t
 
 module _ (R : CommRing) where
   open CommRing R using (Car, one, add as _⊕_, mul as _⊗_, neg as ⊖_, add-comm, add-assoc, add-zero, add-neg, mul-comm, mul-assoc, mul-one, mul-add)

@@ -9,8 +9,8 @@ use Prim.Native.Nat.{ℕ}
 use native.Mathlib.Omega.{arith}
 use lib.Dec.{eqb}
 use Rattle.prime.specs.Prime.{Prime}
-use Rattle.field.specs.Field.{prime-large}
-use Rattle.curve.specs.Monomial.{pick}
+use Rattle.field.proofs.Invert.{prime-large}
+use Rattle.curve.specs.Sequence.{pick}
 use Rattle.divisor.specs.Kind.{Kind, k0, k11, k21, k22, k31, code}
 use Rattle.basis.specs.declared.Divisor.{Divisor}
 use Rattle.basis.specs.Divisor.{Shaped}

@@ -13,11 +13,11 @@ use native.Mathlib.Omega.{arith}
 use lib.ListN.{getD, List·getD-map}
 use Rattle.algebra.specs.Ring.{CommRing}
 use Rattle.field.specs.Residue.{Z}
-use Rattle.field.specs.Field.{F}
+use Rattle.prime_field.specs.Field.{F}
 use Rattle.ideal.specs.Ideal.{IsIdeal, SameIdeal}
 use Rattle.ideal.proofs.Span.{Span}
 use Rattle.curve.specs.Curve.{Curve, Coordinate, y}
-use Rattle.curve.specs.Monomial.{coefficient}
+use Rattle.curve.specs.Sequence.{coefficient}
 use Rattle.divisor.specs.Kind.{Kind, IdealOf, IsBasis}
 use Rattle.divisor.proofs.Table.{degree, Reached, degree-bound}
 use Rattle.divisor.proofs.Members.{member, members}

@@ -13,9 +13,9 @@ use Rattle.algebra.proofs.Norm.{nil}
 use Rattle.algebra.proofs.Solve.{solve, _⊞_, _⊠_}
 use Rattle.prime.specs.Prime.{Prime}
 use Rattle.field.specs.Residue.{Z, el}
-use Rattle.field.specs.Element.{el-zero}
+use Rattle.field.proofs.Element.{el-zero}
 use Rattle.curve.specs.Curve.{Curve, Coordinate, x, y, constant}
-use Rattle.curve.specs.Coefficient.{constant-zero}
+use Rattle.curve.proofs.Coefficient.{constant-zero}
 use Rattle.curve.specs.Monomial.{mono}
 use Rattle.divisor.specs.Kind.{Kind, k0, k11, k21, k22, k31}
 use Rattle.divisor.proofs.Table.{degree, degree-bound}

@@ -16,12 +16,13 @@ use Rattle.algebra.proofs.Laws as L
 use Rattle.ideal.specs.Poles.{IsGap, IsPole}
 use Rattle.ideal.proofs.Gaps.{pole-intro}
 use Rattle.field.specs.Residue.{Z, el}
-use Rattle.field.specs.Element.{el-zero, el-one}
+use Rattle.field.proofs.Element.{el-zero, el-one}
 use Rattle.curve.specs.Curve.{Curve, Coordinate, x, y, constant}
-use Rattle.curve.specs.Coefficient.{constant-one}
-use Rattle.curve.specs.Monomial.{coefficient, mono}
-use Rattle.curve.specs.Term.{coefficient-add, coefficient-constant-mul, coefficient-ext}
-use Rattle.curve.specs.Product.{coefficient-mono}
+use Rattle.curve.proofs.Coefficient.{constant-one}
+use Rattle.curve.specs.Sequence.{coefficient}
+use Rattle.curve.specs.Monomial.{mono}
+use Rattle.curve.proofs.Term.{coefficient-add, coefficient-constant-mul, coefficient-ext}
+use Rattle.curve.proofs.Product.{coefficient-mono}
 use Rattle.curve.proofs.Monomial.{coefficient-mono-other}
 use Rattle.divisor.proofs.Monomials.{mono-one, mono-x, mono-y, mono-xy}
 use Rattle.vector.specs.Vector.{Vec, Top, at, res, width, element, scalar}

@@ -24,7 +24,7 @@ use native.Mathlib.Omega.{arith}
 use Rattle.algebra.specs.Ring.{CommRing}
 use Rattle.prime.specs.Prime.{Prime}
 use Rattle.prime.proofs.Primes.{prime-prop}
-use Rattle.field.specs.Field.{F}
+use Rattle.prime_field.specs.Field.{F}
 use Rattle.ideal.specs.Ideal.{IsIdeal, Product, SameIdeal, Equivalent}
 use Rattle.ideal.specs.Poles.{Poles}
 use Rattle.ideal.specs.Reduced.{IsStar, IsReduced}
@@ -35,7 +35,7 @@ use Rattle.ideal.proofs.Product.{product-comm, product-unit, product-same, prod
 use Rattle.ideal.proofs.Reduced.{SmallFootprint, footprint-same, equivalent-reduced, reduced-equivalent, reduced-unique, footprint-class}
 use Rattle.ideal.proofs.Star.{star-back, star-unique}
 use Rattle.ideal.proofs.Finite.{BasedIdeal, footprint-based, product-based}
-use Rattle.curve.specs.Poles.{poles}
+use Rattle.poles.specs.Poles.{poles}
 use Rattle.divisor.specs.Kind.{Kind, k0}
 use Rattle.divisor.proofs.Basis.{basis-footprint}
 use Rattle.layout.proofs.Bytes.{bytes-record}

@@ -9,7 +9,8 @@ use Prim.Native.Nat.{ℕ, _+_, _<_}
 use native.Mathlib.Omega.{arith}
 use lib.Dec.{eqb}
 use borrow.Author.Tests.{eq-eqb, ne-eqb}
-use Rattle.field.specs.Field.{F, prime-large}
+use Rattle.prime_field.specs.Field.{F}
+use Rattle.field.proofs.Invert.{prime-large}
 use Rattle.divisor.specs.Kind.{k0, IsBasis}
 use Rattle.divisor.proofs.Class.{zero-basis}
 use Rattle.layout.specs.Layout.{number2}

@@ -2,7 +2,6 @@
 --   at-y-0-straight at-y-1-straight at-y-2-straight    of y·u where u has no y²: y moves them up
 --   at-monomial-same, at-monomial-other        x^i·y^j has the coefficient 1 at x^i·y^j and 0 elsewhere
 --   coefficient-mono-other                     mono n has no coefficient but that at n
---   mono-vector        the vector of a sequence that is 1 at n and 0 elsewhere is mono n
 use mathlib.Core.Path.{_≡_, refl, sym, _∙_, ap, ap₂}
 use mathlib.Core.List.{[], _∷_}
 use Prim.Native.Nat.{ℕ, zero, suc, _+_, _-_, _≤_, _<_}
@@ -12,13 +11,14 @@ use Rattle.algebra.specs.Ring.{CommRing}
 use Rattle.algebra.proofs.Laws as L
 use Rattle.ideal.specs.Poles.{IsPole}
 use Rattle.curve.specs.Curve.{Curve, Coordinate, x, y, at}
-use Rattle.curve.specs.Back.{weigh-vanish}
-use Rattle.curve.specs.Coefficient.{at-one-0, at-one-x, at-one-y, at-x-first, at-x-next, at-y-0, at-y-1, at-y-2}
-use Rattle.curve.specs.Pole.{pole, Located, place, gap, locate}
-use Rattle.curve.specs.Monomial.{coefficient, power, monomial, mono, vector}
-use Rattle.curve.specs.Term.{coefficient-pole, coefficient-gap}
-use Rattle.curve.specs.Product.{mono-monomial, coefficient-mono}
-use Rattle.curve.proofs.Vector.{vector-is}
+use Rattle.curve.proofs.Back.{weigh-vanish}
+use Rattle.curve.proofs.Coefficient.{at-one-0, at-one-x, at-one-y, at-x-first, at-x-next, at-y-0, at-y-1, at-y-2}
+use Rattle.curve.specs.Pole.{pole}
+use Rattle.curve.proofs.Pole.{Located, place, gap, locate}
+use Rattle.curve.specs.Sequence.{coefficient}
+use Rattle.curve.specs.Monomial.{power, monomial, mono}
+use Rattle.curve.proofs.Term.{coefficient-pole, coefficient-gap}
+use Rattle.curve.proofs.Product.{mono-monomial}
 
 module _ {k : CommRing} (C : Curve k) where
   open CommRing k using (Car, zero as 𝟘, one as 𝟙, add as _+ₖ_, mul as _·ₖ_, neg as -ₖ_)
@@ -128,10 +128,3 @@ module _ {k : CommRing} (C : Curve k) where
           ap₂ (coefficient C) e′ (ap (mono C) e ∙ mono-monomial C i j l)
           ∙ coefficient-pole C i′ j′ l′ (monomial C i j)
           ∙ at-monomial-other i j i′ j′ l l′ (λ q. u (e′ ∙ sym q ∙ sym e))
-
-  pub mono-vector : (n : ℕ) → IsPole n → (f : ℕ → Car) (N : ℕ) (h : (m : ℕ) → N ≤ m → f m ≡ 𝟘) → f n ≡ 𝟙 → ((m : ℕ) → ¬ (m ≡ n) → f m ≡ 𝟘) → mono C n ≡ vector C f N h
-  mono-vector n p f N h one none = vector-is C f N h (mono C n) (λ m q. go m (ℕ-discrete m n))
-    where
-      go : (m : ℕ) → Dec (m ≡ n) → coefficient C m (mono C n) ≡ f m
-      go m (yes e) = ap (λ a. coefficient C a (mono C n)) e ∙ coefficient-mono C n p ∙ sym one ∙ ap f (sym e)
-      go m (no u) = coefficient-mono-other m n p u ∙ sym (none m u)

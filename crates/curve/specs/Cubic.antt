@@ -5,22 +5,10 @@
 --   component j g         the coefficient of y^j in the normal form g; 0 for j above 2
 --   embed a               a as an element: the normal form a + 0·y + 0·y²
 --   y                     the element y
---   normal-path           elements with the same three components are equal
-use mathlib.Core.Path.{_≡_}
 use Prim.Native.Nat.{ℕ, zero, suc}
 use Rattle.algebra.specs.Ring.{CommRing, ops}
-use Rattle.curve.specs.CubicLaws.{Normal, normal-form, plus, product, comm-0, comm-1, comm-2, assoc-0, assoc-1, assoc-2, unit-0, unit-1, unit-2, distribute-0, distribute-1, distribute-2}
-
-abbrev pub normal-set : {A : Type 0} → IsSet A → IsSet (Normal A)
-normal-set s a b p q i j =
-    record {
-      r0 = s (a .r0) (b .r0) (λ l. p l .r0) (λ l. q l .r0) i j;
-      r1 = s (a .r1) (b .r1) (λ l. p l .r1) (λ l. q l .r1) i j;
-      r2 = s (a .r2) (b .r2) (λ l. p l .r2) (λ l. q l .r2) i j;
-    }
-
-abbrev pub normal-eq : {A : Type 0} {a b : Normal A} → a .r0 ≡ b .r0 → a .r1 ≡ b .r1 → a .r2 ≡ b .r2 → a ≡ b
-normal-eq e0 e1 e2 i = record { r0 = e0 i; r1 = e1 i; r2 = e2 i }
+use Rattle.algebra.specs.Cubic.{Normal, normal-form, plus, product}
+use Rattle.algebra.proofs.Cubic.{normal-set, normal-eq, product-comm, product-assoc, product-one, product-add}
 
 module _ (A : CommRing) (t0 t1 t2 : A .Car) where
   open CommRing A using (Car, zero as 𝟘, one as 𝟙)
@@ -39,10 +27,10 @@ module _ (A : CommRing) (t0 t1 t2 : A .Car) where
         add-assoc = λ a b c. normal-eq (A .add-assoc _ _ _) (A .add-assoc _ _ _) (A .add-assoc _ _ _);
         add-zero = λ a. normal-eq (A .add-zero _) (A .add-zero _) (A .add-zero _);
         add-neg = λ a. normal-eq (A .add-neg _) (A .add-neg _) (A .add-neg _);
-        mul-comm = λ a b. normal-eq (comm-0 A t0 t1 t2 (a .r0) (a .r1) (a .r2) (b .r0) (b .r1) (b .r2)) (comm-1 A t0 t1 t2 (a .r0) (a .r1) (a .r2) (b .r0) (b .r1) (b .r2)) (comm-2 A t0 t1 t2 (a .r0) (a .r1) (a .r2) (b .r0) (b .r1) (b .r2));
-        mul-assoc = λ a b c. normal-eq (assoc-0 A t0 t1 t2 (a .r0) (a .r1) (a .r2) (b .r0) (b .r1) (b .r2) (c .r0) (c .r1) (c .r2)) (assoc-1 A t0 t1 t2 (a .r0) (a .r1) (a .r2) (b .r0) (b .r1) (b .r2) (c .r0) (c .r1) (c .r2)) (assoc-2 A t0 t1 t2 (a .r0) (a .r1) (a .r2) (b .r0) (b .r1) (b .r2) (c .r0) (c .r1) (c .r2));
-        mul-one = λ a. normal-eq (unit-0 A t0 t1 t2 (a .r0) (a .r1) (a .r2)) (unit-1 A t0 t1 t2 (a .r0) (a .r1) (a .r2)) (unit-2 A t0 t1 t2 (a .r0) (a .r1) (a .r2));
-        mul-add = λ a b c. normal-eq (distribute-0 A t0 t1 t2 (a .r0) (a .r1) (a .r2) (b .r0) (b .r1) (b .r2) (c .r0) (c .r1) (c .r2)) (distribute-1 A t0 t1 t2 (a .r0) (a .r1) (a .r2) (b .r0) (b .r1) (b .r2) (c .r0) (c .r1) (c .r2)) (distribute-2 A t0 t1 t2 (a .r0) (a .r1) (a .r2) (b .r0) (b .r1) (b .r2) (c .r0) (c .r1) (c .r2));
+        mul-comm = product-comm A (normal-form t0 t1 t2);
+        mul-assoc = product-assoc A (normal-form t0 t1 t2);
+        mul-one = product-one A (normal-form t0 t1 t2);
+        mul-add = product-add A (normal-form t0 t1 t2);
       }
 
   unfoldable pub triple : Car → Car → Car → Cubic .Car
@@ -61,7 +49,3 @@ module _ (A : CommRing) (t0 t1 t2 : A .Car) where
 
   unfoldable pub y : Cubic .Car
   y = triple 𝟘 𝟙 𝟘
-
-  pub normal-path : {g h : Cubic .Car} → component 0 g ≡ component 0 h → component 1 g ≡ component 1 h → component 2 g ≡ component 2 h → g ≡ h
-  unfolding Cubic component
-  normal-path e0 e1 e2 = normal-eq e0 e1 e2

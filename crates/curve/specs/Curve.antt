@@ -4,7 +4,8 @@
 --   ascending cs       the polynomial in x with the coefficients cs, the constant one first
 --   t0, t1, t2         F's coefficients at y⁰, y¹, y²
 --   Coordinate C       the coordinate ring
---   x, y, constant c   the elements x, y and c
+--   x, y, constant c   the elements x, y and c; in-x f: a polynomial in x as an element
+--   part j g           the coefficient of y^j in the normal form of g, a polynomial in x
 --   at i j g           the coefficient of x^i·y^j in the normal form of g; 0 for j above 2
 use mathlib.Core.List.{List, [], _∷_}
 use Prim.Native.Nat.{ℕ}
@@ -49,7 +50,6 @@ module _ {k : CommRing} (C : Curve k) where
   unfolding Coordinate
   y = Q.y (Poly k) t0 t1 t2
 
-  -- a polynomial in x alone
   unfoldable pub in-x : Poly k .Car → Coordinate .Car
   unfolding Coordinate
   in-x f = Q.embed (Poly k) t0 t1 t2 f
@@ -60,7 +60,6 @@ module _ {k : CommRing} (C : Curve k) where
   unfoldable pub constant : k .Car → Coordinate .Car
   constant c = in-x (const k c)
 
-  -- the coefficient of y^j, a polynomial in x
   unfoldable pub part : ℕ → Coordinate .Car → Poly k .Car
   unfolding Coordinate
   part j g = Q.component (Poly k) t0 t1 t2 j g

@@ -1,14 +1,7 @@
--- The coordinate ring of a C34 curve and its pole numbers.
-pub mod CubicLaws
+-- The coordinate ring of a C34 curve, normal monomials and their pole numbers, elements as sequences of coefficients.
 pub mod Cubic
-pub mod Component
 pub mod Curve
-pub mod Back
-pub mod Coefficient
 pub mod Pole
 pub mod Monomial
-pub mod Term
-pub mod Filtration
-pub mod Lead
-pub mod Product
-pub mod Poles
+pub mod Sequence
+pub mod Table

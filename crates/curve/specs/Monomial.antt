@@ -1,29 +1,17 @@
--- Normal monomials and coefficients by pole number. An element of the coordinate ring is a sequence of coefficients indexed by
--- pole numbers, 0 at the gaps. Example: x²·y + 5 has the coefficient 1 at 10, the coefficient 5 at 0, and 0 elsewhere.
+-- Normal monomials by pole number, and elements whose monomials have pole numbers below n.
 --   power R a n        aⁿ
 --   monomial i j       x^i·y^j
 --   mono n             the normal monomial of pole number n, where there is one
---   coefficient n g    the coefficient of that monomial in the normal form of g; 0 where there is none
---   vector f N h       the element with the coefficient f n at each pole number n; f vanishes from N on
---   twist m n          the lead's coefficient of mono m·mono n: −a0 if (m mod 3) + (n mod 3) ≥ 3, for then a y³ comes up, and else 1
+--   Below n g          every monomial of g has a pole number below n
 use mathlib.Core.Path.{_≡_}
-use mathlib.Core.Bool.{Bool, true, false}
-use Prim.Native.Nat.{ℕ, zero, suc, _+_, _*_, _%_, _≤_}
-use native.Mathlib.Omega.{arith}
-use lib.Dec.{leb}
+use Prim.Native.Nat.{ℕ, zero, suc, _≤_}
 use Rattle.algebra.specs.Ring.{CommRing}
-use Rattle.polynomial.specs.Poly.{Poly, poly}
-use Rattle.curve.specs.Cubic as Q
-use Rattle.curve.specs.Curve.{Curve, t0, t1, t2, Coordinate, x, y, at}
+use Rattle.curve.specs.Curve.{Curve, Coordinate, x, y, at}
 use Rattle.curve.specs.Pole.{pole, x-power, y-power}
 
 unfoldable pub power : (R : CommRing) → R .Car → ℕ → R .Car
 power R a zero = R .one
 power R a (suc n) = R .mul a (power R a n)
-
-abbrev pub pick : {A : Type 0} → Bool → A → A → A
-pick true a b = a
-pick false a b = b
 
 module _ {k : CommRing} (C : Curve k) where
   unfoldable pub monomial : ℕ → ℕ → Coordinate C .Car
@@ -32,16 +20,6 @@ module _ {k : CommRing} (C : Curve k) where
   unfoldable pub mono : ℕ → Coordinate C .Car
   mono n = monomial (x-power n) (y-power n)
 
-  -- where 4·(n mod 3) is above n, the number n is a gap
-  unfoldable pub coefficient : ℕ → Coordinate C .Car → k .Car
-  coefficient n g = pick (leb (4 * (y-power n)) n) (at C (x-power n) (y-power n) g) (k .zero)
-
-  unfoldable pub vector : (f : ℕ → k .Car) (N : ℕ) → ((n : ℕ) → N ≤ n → f n ≡ k .zero) → Coordinate C .Car
-  unfolding Coordinate
-  vector f N h =
-      Q.triple (Poly k) (t0 C) (t1 C) (t2 C) (poly k (λ i. f (pole i 0)) ∣ (N, λ i b. h (pole i 0) (omega arith)) ∣₁)
-      (poly k (λ i. f (pole i 1)) ∣ (N, λ i b. h (pole i 1) (omega arith)) ∣₁)
-      (poly k (λ i. f (pole i 2)) ∣ (N, λ i b. h (pole i 2) (omega arith)) ∣₁)
-
-  unfoldable pub twist : ℕ → ℕ → k .Car
-  twist m n = pick (leb 3 (m % 3 + n % 3)) (k .neg (C .a0)) (k .one)
+  -- Below 0 g: g is zero. Below (n + 1) g and not Below n g: the lead of g has the pole number n.
+  pub record Below (n : ℕ) (g : Coordinate C .Car) : Type 0 where
+    pub vanish : (i j : ℕ) → j ≤ 2 → n ≤ pole i j → at C i j g ≡ k .zero

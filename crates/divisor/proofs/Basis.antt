@@ -11,7 +11,6 @@
 --   basis-lead, lead-basis its leads are the numbers that the kind reaches
 --   basis-footprint        it is a based ideal with all leads from 6 on
 --   basis-based            … and so a based ideal with a nonzero element
---   basis-reduced          … and its own reduced ideal
 use mathlib.Core.Path.{_≡_, sym, _∙_, ap, subst}
 use Prim.Native.Nat.{ℕ, _≤_}
 use native.Mathlib.Omega.{arith}
@@ -21,18 +20,19 @@ use Rattle.algebra.proofs.Laws as L
 use Rattle.algebra.proofs.Solve.{solve, _⊞_, ⊟_}
 use Rattle.ideal.specs.Ideal.{IsIdeal, SameIdeal}
 use Rattle.ideal.specs.Poles.{IsGap, Poles}
-use Rattle.ideal.specs.Reduced.{IsReduced}
 use Rattle.ideal.proofs.Gaps.{gap-dec}
 use Rattle.ideal.proofs.Every.{Every}
 use Rattle.ideal.proofs.Leads.{Lead, ideal-space, space-neg}
 use Rattle.ideal.proofs.Generated.{generated-ideal, generated-in, generated-each}
 use Rattle.ideal.proofs.Span.{span-each, span-ideal}
-use Rattle.ideal.proofs.Reduced.{SmallFootprint, footprint-same, reduced-self}
+use Rattle.ideal.proofs.Reduced.{SmallFootprint, footprint-same}
 use Rattle.ideal.proofs.Finite.{BasedIdeal, footprint-based}
 use Rattle.curve.specs.Curve.{Curve, Coordinate, y}
-use Rattle.curve.specs.Monomial.{coefficient, mono}
-use Rattle.curve.specs.Term.{coefficient-gap}
-use Rattle.curve.specs.Poles.{poles, below-some}
+use Rattle.curve.specs.Sequence.{coefficient}
+use Rattle.curve.specs.Monomial.{mono}
+use Rattle.curve.proofs.Term.{coefficient-gap}
+use Rattle.poles.specs.Poles.{poles}
+use Rattle.curve.proofs.Poles.{below-some}
 use Rattle.divisor.specs.Kind.{Kind, polynomials, remaining, IdealOf, MadeOf, IsBasis}
 use Rattle.divisor.proofs.Monomials.{mono-y}
 use Rattle.divisor.proofs.Terms.{distinct, absent, made-within, within-made}
@@ -145,10 +145,8 @@ module _ (K : Field) (C : Curve (K .ring)) (nonzero : ¬ (C .a0 ≡ K .ring .zer
     lead-basis m (u, mu, pu) = lead-reached K C nonzero κ n m (u, basis-same u .1 mu, pu)
 
     pub basis-footprint : SmallFootprint P (IdealOf C κ n)
-    basis-footprint = footprint-same P basis-same (record { ideal = closed-ideal basis-closed; based = spanned-based K C nonzero κ n; leads = λ m l. reached-lead K C nonzero κ n m (reached-large κ m l) })
+    basis-footprint =
+        footprint-same P basis-same (record { ideal = closed-ideal basis-closed; based = spanned-based K C nonzero κ n; leads = λ m l. reached-lead K C nonzero κ n m (reached-large κ m l) })
 
     pub basis-based : BasedIdeal P (IdealOf C κ n)
     basis-based = footprint-based P basis-footprint
-
-    pub basis-reduced : IsReduced P (IdealOf C κ n) (IdealOf C κ n)
-    basis-reduced = reduced-self P basis-footprint

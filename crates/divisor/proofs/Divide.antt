@@ -14,11 +14,13 @@ use Rattle.ideal.specs.Poles.{IsPole, Poles, Monic}
 use Rattle.ideal.proofs.Degree.{degree}
 use Rattle.ideal.proofs.Leads.{IsSpace, space-neg, Lead, Based, lead-monic}
 use Rattle.curve.specs.Curve.{Curve, Coordinate, constant}
-use Rattle.curve.specs.Monomial.{coefficient}
-use Rattle.curve.specs.Term.{coefficient-add, coefficient-constant-mul}
-use Rattle.curve.specs.Filtration.{Below, below-coefficient, coefficient-below, below-zero, below-add, below-constant-mul, below-more}
-use Rattle.curve.specs.Poles.{poles, below-constant}
-use Rattle.curve.proofs.Monic.{has-pole-coefficient, monic-coefficient}
+use Rattle.curve.specs.Sequence.{coefficient}
+use Rattle.curve.specs.Monomial.{Below}
+use Rattle.curve.proofs.Term.{coefficient-add, coefficient-constant-mul}
+use Rattle.curve.proofs.Filtration.{below-coefficient, coefficient-below, below-zero, below-add, below-constant-mul, below-more}
+use Rattle.poles.specs.Poles.{poles}
+use Rattle.curve.proofs.Poles.{below-constant}
+use Rattle.poles.proofs.Monic.{has-pole-coefficient, monic-coefficient}
 
 module _ (K : Field) (C : Curve (K .ring)) (nonzero : ¬ (C .a0 ≡ K .ring .zero)) (U : Coordinate C .Car → Type 0) where
   open CommRing (K .ring) using (Car, zero as 𝟘, one as 𝟙, add as _+ₖ_, mul as _·ₖ_, neg as -ₖ_)

@@ -7,13 +7,13 @@
 --   record-of              every based ideal with a nonzero element has one
 --   record-suffices        every finite list of elements, not all zero, generates such an ideal: the length of a record suffices
 use mathlib.Core.Path.{_≡_, refl, sym, _∙_, ap, ap₂, subst}
-use mathlib.Core.Bool.{Bool, true, false}
+use mathlib.Core.Bool.{Bool, true, false, not}
 use mathlib.Core.List.{List, [], _∷_, map}
 use mathlib.Core.Logic.{inl, inr, ⊎-elim}
 use Prim.Native.Nat.{ℕ, zero, suc, _≤_}
 use native.Mathlib.Omega.{arith}
 use native.Mathlib.Decide.{decLe}
-use lib.Dec.{T, eqb, eqb→eq, ltb, ltb→lt}
+use lib.Dec.{T, eqb, eqb→eq, ltb, ltb→lt, T-not}
 use Rattle.algebra.specs.Ring.{CommRing, Field}
 use Rattle.algebra.proofs.Laws as L
 use Rattle.algebra.proofs.Solve.{solve, _⊞_, ⊟_}
@@ -30,14 +30,16 @@ use Rattle.ideal.proofs.Generated.{generated-ideal, generated-in, generated-eac
 use Rattle.ideal.proofs.Reduced.{SmallFootprint, reduced-exists, reduced-footprint, reduced-unique}
 use Rattle.ideal.proofs.Finite.{BasedIdeal, generated-lead, generated-based-ideal}
 use Rattle.curve.specs.Curve.{Curve, Coordinate}
-use Rattle.curve.specs.Coefficient.{constant-one}
-use Rattle.curve.specs.Monomial.{coefficient, mono, pick}
-use Rattle.curve.specs.Term.{coefficient-gap, coefficient-neg}
-use Rattle.curve.specs.Filtration.{Below, below-coefficient}
-use Rattle.curve.specs.Product.{below-mono}
-use Rattle.curve.specs.Poles.{poles}
+use Rattle.curve.proofs.Coefficient.{constant-one}
+use Rattle.curve.specs.Sequence.{coefficient, pick}
+use Rattle.curve.specs.Monomial.{mono, Below}
+use Rattle.curve.proofs.Term.{coefficient-gap, coefficient-neg}
+use Rattle.curve.proofs.Filtration.{below-coefficient}
+use Rattle.curve.proofs.Product.{below-mono}
+use Rattle.poles.specs.Poles.{poles}
 use Rattle.divisor.specs.Kind.{Kind, k0, k11, k21, k22, k31, size, polynomials, IdealOf, IsBasis}
-use Rattle.divisor.proofs.Terms.{terms, absent, distinct, both, both-left, both-right, unlike, unlike-not, pole-test, pole-test-pole, Within, within-neg, reading, reading-terms}
+use Rattle.divisor.proofs.Terms.{terms, absent, distinct, pole-test, pole-test-pole, Within, within-neg, reading, reading-terms}
+use Rattle.algebra.proofs.Test.{both, both-left, both-right}
 use Rattle.divisor.proofs.Table.{Reached, kind-by, pole-by, remaining-poles, reached-large, absent-reached, Row, row, rows, poles-of, fill, row-value, polynomials-rows}
 use Rattle.divisor.proofs.Divide.{Clean, clean-zero, Division, divide}
 use Rattle.divisor.proofs.Basis.{made-bare, basis-lead}
@@ -60,18 +62,18 @@ spot i (r ∷ rs) = in-row i (r .lead) (r .tail) (spot i rs)
 -- test: each q of qs is above d or in ps
 abbrev covers : ℕ → List ℕ → List ℕ → Bool
 covers d ps [] = true
-covers d ps (q ∷ qs) = both (pick (ltb d q) true (unlike (absent q ps))) (covers d ps qs)
+covers d ps (q ∷ qs) = both (pick (ltb d q) true (not (absent q ps))) (covers d ps qs)
 
 covers-absent : (d : ℕ) (ps qs : List ℕ) (m : ℕ) → T (covers d ps qs) → T (absent m ps) → m ≤ d → T (absent m qs)
 covers-absent d ps [] m t u l = tt
 covers-absent d ps (q ∷ qs) m t u l = go (eqb m q) refl (ltb d q) refl (both-left near (covers d ps qs) t) (covers-absent d ps qs m (both-right near (covers d ps qs) t) u l)
   where
     near : Bool
-    near = pick (ltb d q) true (unlike (absent q ps))
+    near = pick (ltb d q) true (not (absent q ps))
 
-    go : (b : Bool) → eqb m q ≡ b → (c : Bool) → ltb d q ≡ c → T (pick c true (unlike (absent q ps))) → T (absent m qs) → T (both (unlike b) (absent m qs))
+    go : (b : Bool) → eqb m q ≡ b → (c : Bool) → ltb d q ≡ c → T (pick c true (not (absent q ps))) → T (absent m qs) → T (both (not b) (absent m qs))
     go true e true f v w = absurd (omega (arith, l, eqb→eq m q (subst T (sym e) tt), ltb→lt d q (subst T (sym f) tt)))
-    go true e false f v w = absurd (unlike-not (absent q ps) v (subst (λ (i : ℕ). T (absent i ps)) (eqb→eq m q (subst T (sym e) tt)) u))
+    go true e false f v w = absurd (T-not (absent q ps) v (subst (λ (i : ℕ). T (absent i ps)) (eqb→eq m q (subst T (sym e) tt)) u))
     go false e c f v w = w
 
 module _ (K : Field) (C : Curve (K .ring)) (nonzero : ¬ (C .a0 ≡ K .ring .zero)) where

@@ -7,6 +7,5 @@ pub mod Divide
 pub mod Basis
 pub mod Star
 pub mod Unique
-pub mod Same
 pub mod Exists
 pub mod Class

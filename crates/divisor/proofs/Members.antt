@@ -5,8 +5,9 @@
 --   member-monic, member-pole      the member in class j is monic, with the pole number degree κ j
 --   Spanned κ n            the span of the members over k[x]
 --   reached-lead, lead-reached     its leads are the numbers that the kind reaches
---   spanned-space, spanned-based, spanned-each
+--   spanned-space, spanned-based, spanned-each, spanned-in     it is a based space, holds the members, and lies in each ideal that does
 --   spanned-ideal-of       it lies in the ideal of the record
+--   poles-mono             the monomials of the interface are the normal monomials
 use mathlib.Core.Path.{_≡_, refl, sym, _∙_, ap₂, subst}
 use mathlib.Core.List.{List, [], _∷_}
 use mathlib.Core.Logic.{_⊎_, inl, inr, ⊎-elim}
@@ -24,13 +25,14 @@ use Rattle.ideal.proofs.Generated.{generated-ideal, generated-each}
 use Rattle.ideal.proofs.Span.{Span, span-space, span-each, span-in}
 use Rattle.ideal.proofs.Triple.{Reach, triple-lead, triple-reach, triple-based}
 use Rattle.curve.specs.Curve.{Curve, Coordinate, x, y, constant}
-use Rattle.curve.specs.Monomial.{coefficient, mono}
-use Rattle.curve.specs.Term.{pick-true}
-use Rattle.curve.specs.Filtration.{Below, below-coefficient, coefficient-below}
-use Rattle.curve.specs.Lead.{twist-one, top-y}
-use Rattle.curve.specs.Product.{below-mono, coefficient-mono}
-use Rattle.curve.specs.Poles.{poles}
-use Rattle.curve.proofs.Monic.{monic-coefficient, coefficient-monic}
+use Rattle.curve.specs.Sequence.{coefficient}
+use Rattle.curve.specs.Monomial.{mono, Below}
+use Rattle.curve.proofs.Term.{pick-true}
+use Rattle.curve.proofs.Filtration.{below-coefficient, coefficient-below}
+use Rattle.curve.proofs.Lead.{twist-one, top-y}
+use Rattle.curve.proofs.Product.{below-mono, coefficient-mono}
+use Rattle.poles.specs.Poles.{poles}
+use Rattle.poles.proofs.Monic.{monic-coefficient, coefficient-monic}
 use Rattle.divisor.specs.Kind.{Kind, k0, k11, k21, k22, k31, polynomials, IdealOf}
 use Rattle.divisor.proofs.Monomials.{mono-one, mono-x, mono-y, mono-xx, mono-xy, mono-yy}
 use Rattle.divisor.proofs.Terms.{Terms, terms, places, distinct, below, coefficient-terms, terms-top, pole-test-pole, pole-test}
@@ -104,7 +106,7 @@ module _ (K : Field) (C : Curve (K .ring)) (nonzero : ¬ (C .a0 ≡ K .ring .zer
       (coefficient-monic K C nonzero (pole-test-pole d w) (coefficient-terms C ((𝟙, d) ∷ ts) t d ∙ pick-true (eqb d d) 𝟙 _ (eqb-refl d)) (λ m h. terms-top C ((𝟙, d) ∷ ts) (suc d) m t u h))
 
   -- y times a monic element is monic unless y³ comes up
-  pub monic-y : {g : El} (n : ℕ) → n % 3 ≤ 1 → Monic P g n → Monic P (y C ⊗ g) (4 + n)
+  monic-y : {g : El} (n : ℕ) → n % 3 ≤ 1 → Monic P g n → Monic P (y C ⊗ g) (4 + n)
   monic-y {g} n l m = go (monic-coefficient K C nonzero m)
     where
       go : IsPole n × (coefficient C n g ≡ 𝟙) × ((m : ℕ) → n < m → coefficient C m g ≡ 𝟘) → Monic P (y C ⊗ g) (4 + n)

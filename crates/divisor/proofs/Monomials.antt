@@ -1,5 +1,5 @@
 -- The first normal monomials by name.
---   mono-one … mono-yy         the normal monomials of pole numbers 0, 3, 4, 6, 7, 8 are 1, x, y, x², xy, y²
+--   mono-one mono-x mono-y mono-xx mono-xy mono-yy      the normal monomials of pole numbers 0, 3, 4, 6, 7, 8 are 1, x, y, x², xy, y²
 use mathlib.Core.Path.{_≡_, _∙_, ap, ap₂}
 use Rattle.algebra.specs.Ring.{CommRing}
 use Rattle.algebra.proofs.Laws as L

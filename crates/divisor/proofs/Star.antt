@@ -3,7 +3,7 @@
 --   colon-recognised       a record whose polynomials lie in (f : J) is a basis, and its ideal is (f : J), if J matches the kind at f's pole number
 --   star-recognised        … so it is J* for the least element f of J
 use mathlib.Core.Path.{_≡_, refl, sym, subst}
-use mathlib.Core.Bool.{Bool, true, false}
+use mathlib.Core.Bool.{Bool, true, false, not}
 use mathlib.Core.List.{List, [], _∷_}
 use Prim.Native.Nat.{ℕ, _+_}
 use lib.Dec.{T, eqb, eqb→eq}
@@ -17,22 +17,23 @@ use Rattle.ideal.proofs.Leads.{Lead}
 use Rattle.ideal.proofs.Colon.{colon-ideal}
 use Rattle.ideal.proofs.Recognise.{recognise}
 use Rattle.curve.specs.Curve.{Curve, Coordinate, y}
-use Rattle.curve.specs.Poles.{poles}
+use Rattle.poles.specs.Poles.{poles}
 use Rattle.divisor.specs.Kind.{Kind, polynomials, IdealOf, IsBasis}
-use Rattle.divisor.proofs.Terms.{absent, both, unlike}
+use Rattle.divisor.proofs.Terms.{absent}
+use Rattle.algebra.proofs.Test.{both}
 use Rattle.divisor.proofs.Table.{Reached, remaining-poles, absent-reached}
-use Rattle.divisor.proofs.Members.{member, members, Spanned, spanned-space, spanned-based, reached-lead, spanned-in, spanned-each}
+use Rattle.divisor.proofs.Members.{member, Spanned, spanned-space, spanned-based, reached-lead, spanned-in, spanned-each}
 use Rattle.divisor.proofs.Basis.{Closed, closed-same, closed-basis}
 
 -- a pole number that the kind does not reach is one of the remaining
-pub remaining-find : (κ : Kind) (Q : ℕ → Type 0) → Every Q (remaining-poles κ) → (m : ℕ) → IsPole m → ¬ Reached κ m → Q m
+remaining-find : (κ : Kind) (Q : ℕ → Type 0) → Every Q (remaining-poles κ) → (m : ℕ) → IsPole m → ¬ Reached κ m → Q m
 remaining-find κ Q qs m p h = go (remaining-poles κ) qs (λ t. h (absent-reached κ m p t))
   where
     go : (ps : List ℕ) → Every Q ps → ¬ T (absent m ps) → Q m
     go [] _ u = absurd (u tt)
     go (q ∷ ps) (a, bs) u = at (eqb m q) refl (go ps bs) u
       where
-        at : (b : Bool) → eqb m q ≡ b → (¬ T (absent m ps) → Q m) → ¬ T (both (unlike b) (absent m ps)) → Q m
+        at : (b : Bool) → eqb m q ≡ b → (¬ T (absent m ps) → Q m) → ¬ T (both (not b) (absent m ps)) → Q m
         at true e f v = subst Q (sym (eqb→eq m q (subst T (sym e) tt))) a
         at false e f v = f v
 
@@ -62,7 +63,8 @@ module _ (K : Field) (C : Curve (K .ring)) (nonzero : ¬ (C .a0 ≡ K .ring .zer
       colon-recognised =
           (closed-basis K C nonzero κ n colon-closed, same-trans (Coordinate C) (same-sym (Coordinate C) (closed-same K C nonzero κ n colon-closed)) spanned-colon)
 
-    pub star-recognised : {J : El → Type 0} {f : El} {d : ℕ} → Least P J f → HasPole P f d → Matched J κ d → Every (Colon (Coordinate C) f J) (polynomials C κ n) → IsBasis C κ n × IsStar P J (IdealOf C κ n)
+    pub star-recognised : {J : El → Type 0} {f : El} {d : ℕ} → Least P J f → HasPole P f d → Matched J κ d
+        → Every (Colon (Coordinate C) f J) (polynomials C κ n) → IsBasis C κ n × IsStar P J (IdealOf C κ n)
     star-recognised {J} {f} l pf met ms = (found .0, record { f = f; least = l; same = found .1 })
       where
         found : IsBasis C κ n × SameIdeal (Coordinate C) (IdealOf C κ n) (Colon (Coordinate C) f J)

@@ -8,11 +8,12 @@
 --   reached-absent, absent-reached     a pole number is reached exactly if it does not remain
 --   Row, rows κ            a polynomial: the pole number of its lead, and for each lower term the number's place in the record and the pole number
 --   row-terms n r, row-value n r       its terms with the numbers n, and their sum
+--   row, poles-of, fill    a row given by its parts, the pole numbers of its lower terms, these terms with the numbers n
 --   one-term, two-terms, three-terms   sums with so many numbers, as document 01 writes them, are sums of terms
 --   polynomials-rows       the polynomials of a record are those of its rows
 --   remaining-monos        the remaining monomials are those of remaining-poles κ
 use mathlib.Core.Path.{_≡_, refl, sym, ap, ap₂, subst}
-use mathlib.Core.Bool.{Bool, true, false}
+use mathlib.Core.Bool.{Bool, true, false, not}
 use mathlib.Core.List.{List, [], _∷_, map}
 use Prim.Native.Nat.{ℕ, zero, suc, _+_, _%_, _≤_}
 use native.Mathlib.Omega.{arith}
@@ -24,11 +25,12 @@ use Rattle.ideal.specs.Poles.{IsPole}
 use Rattle.ideal.proofs.Gaps.{pole-apart}
 use Rattle.ideal.proofs.Every.{Every}
 use Rattle.curve.specs.Curve.{Curve, Coordinate, constant}
-use Rattle.curve.specs.Coefficient.{constant-one}
+use Rattle.curve.proofs.Coefficient.{constant-one}
 use Rattle.curve.specs.Monomial.{mono}
 use Rattle.divisor.specs.Kind.{Kind, k0, k11, k21, k22, k31, polynomials, remaining}
 use Rattle.divisor.proofs.Monomials.{mono-one, mono-x, mono-y, mono-xx, mono-xy, mono-yy}
-use Rattle.divisor.proofs.Terms.{Terms, terms, absent, unlike, both}
+use Rattle.divisor.proofs.Terms.{Terms, terms, absent}
+use Rattle.algebra.proofs.Test.{both}
 
 abbrev pub degree : Kind → ℕ → ℕ
 degree k0 zero = 0
@@ -124,7 +126,7 @@ reached-absent κ m r = go (remaining-poles κ) (remaining-not κ)
     go [] _ = tt
     go (p ∷ ps) (u, us) = at (eqb m p) refl (go ps us)
       where
-        at : (b : Bool) → eqb m p ≡ b → T (absent m ps) → T (both (unlike b) (absent m ps))
+        at : (b : Bool) → eqb m p ≡ b → T (absent m ps) → T (both (not b) (absent m ps))
         at true e t = absurd (u (subst (Reached κ) (eqb→eq m p (subst T (sym e) tt)) r))
         at false e t = t
 

@@ -1,72 +1,57 @@
 -- Sums of constant multiples of normal monomials, given as a list of pairs: y + a·x + b is terms ((1, 4) ∷ (a, 3) ∷ (b, 0) ∷ []).
+--   Terms                      lists of pairs of a constant and a pole number
 --   terms ts                   the sum of constant a·mono p for the pairs (a, p) of ts
 --   find m ts                  the a that stands with m in ts; 0 if none does
 --   places ts                  the p of ts
 --   absent m ps                test: m is not in ps
+--   pole-test n, pole-test-pole    test: n is a pole number
 --   distinct ps                test: the ps are pole numbers, and no two agree
+--   find-absent                nothing is found at a place that is not in ts
 --   coefficient-terms          the coefficients of terms ts are found in ts
 --   below ps d                 test: the ps are below d
 --   terms-top                  … then terms ts has no coefficient from d on
---   Within ps h                h has no coefficient outside the places ps
+--   Within ps h, within-neg    h has no coefficient outside the places ps; nor has −h
 --   reading ps h, reading-terms    h at the places ps; h is the sum of these terms if it has no others
 --   made-within, within-made   MadeOf and Within say the same of the monomials of ps
 use mathlib.Core.Path.{_≡_, refl, sym, _∙_, ap, ap₂, subst}
-use mathlib.Core.Bool.{Bool, true, false}
+use mathlib.Core.Bool.{Bool, true, false, not}
 use mathlib.Core.List.{List, [], _∷_, map}
 use Prim.Native.Nat.{ℕ, _≤_, _<_}
 use native.Mathlib.Omega.{arith}
-use lib.Dec.{T, eqb, eqb→eq, eqb-refl, ltb, ltb→lt}
+use lib.Dec.{T, eqb, eqb→eq, eqb-refl, ltb, ltb→lt, T-not}
 use Rattle.algebra.specs.Ring.{CommRing}
 use Rattle.algebra.proofs.Laws as L
+use Rattle.algebra.proofs.Test.{both, both-left, both-right}
 use Rattle.ideal.specs.Poles.{IsPole}
 use Rattle.ideal.proofs.Gaps.{pole-intro}
 use Rattle.curve.specs.Curve.{Curve, Coordinate, constant}
-use Rattle.curve.specs.Monomial.{coefficient, mono, pick}
-use Rattle.curve.specs.Term.{coefficient-zero, coefficient-add, coefficient-neg, coefficient-constant-mul, coefficient-ext}
-use Rattle.curve.specs.Product.{coefficient-mono}
+use Rattle.curve.specs.Sequence.{coefficient, pick}
+use Rattle.curve.specs.Monomial.{mono}
+use Rattle.curve.proofs.Term.{coefficient-zero, coefficient-add, coefficient-neg, coefficient-constant-mul, coefficient-ext}
+use Rattle.curve.proofs.Product.{coefficient-mono}
 use Rattle.curve.proofs.Monomial.{coefficient-mono-other}
 use Rattle.divisor.specs.Kind.{MadeOf}
 
-abbrev pub both : Bool → Bool → Bool
-both true b = b
-both false b = false
-
-pub both-left : (a b : Bool) → T (both a b) → T a
-both-left true b t = tt
-both-left false b t = t
-
-pub both-right : (a b : Bool) → T (both a b) → T b
-both-right true b t = t
-both-right false b t = absurd t
-
-abbrev pub unlike : Bool → Bool
-unlike true = false
-unlike false = true
-
-pub unlike-not : (b : Bool) → T (unlike b) → ¬ T b
-unlike-not true t u = t
-unlike-not false t u = u
-
 abbrev pub pole-test : ℕ → Bool
-pole-test n = both (unlike (eqb n 1)) (both (unlike (eqb n 2)) (unlike (eqb n 5)))
+pole-test n = both (not (eqb n 1)) (both (not (eqb n 2)) (not (eqb n 5)))
 
 pub pole-test-pole : (n : ℕ) → T (pole-test n) → IsPole n
 pole-test-pole n t =
-    pole-intro (at 1 (both-left (unlike (eqb n 1)) rest t)) (at 2 (both-left (unlike (eqb n 2)) (unlike (eqb n 5)) u)) (at 5 (both-right (unlike (eqb n 2)) (unlike (eqb n 5)) u))
+    pole-intro (at 1 (both-left (not (eqb n 1)) rest t)) (at 2 (both-left (not (eqb n 2)) (not (eqb n 5)) u)) (at 5 (both-right (not (eqb n 2)) (not (eqb n 5)) u))
   where
     rest : Bool
-    rest = both (unlike (eqb n 2)) (unlike (eqb n 5))
+    rest = both (not (eqb n 2)) (not (eqb n 5))
 
     u : T rest
-    u = both-right (unlike (eqb n 1)) rest t
+    u = both-right (not (eqb n 1)) rest t
 
-    at : (m : ℕ) → T (unlike (eqb n m)) → ¬ (n ≡ m)
-    at m u e = unlike-not (eqb n m) u (subst (λ (v : ℕ). T (eqb n v)) e (eqb-refl n))
+    at : (m : ℕ) → T (not (eqb n m)) → ¬ (n ≡ m)
+    at m u e = T-not (eqb n m) u (subst (λ (v : ℕ). T (eqb n v)) e (eqb-refl n))
 
 -- m is not in ps
 abbrev pub absent : ℕ → List ℕ → Bool
 absent m [] = true
-absent m (p ∷ ps) = both (unlike (eqb m p)) (absent m ps)
+absent m (p ∷ ps) = both (not (eqb m p)) (absent m ps)
 
 abbrev pub distinct : List ℕ → Bool
 distinct [] = true
@@ -83,7 +68,7 @@ below-absent (p ∷ ps) d m t l = go (eqb m p) refl (below-absent ps d m (both-r
     less : p < d
     less = ltb→lt p d (both-left (ltb p d) (below ps d) t)
 
-    go : (b : Bool) → eqb m p ≡ b → T (absent m ps) → T (both (unlike b) (absent m ps))
+    go : (b : Bool) → eqb m p ≡ b → T (absent m ps) → T (both (not b) (absent m ps))
     go true e u = absurd (omega (arith, less, eqb→eq m p (subst T (sym e) tt)))
     go false e u = u
 
@@ -113,7 +98,7 @@ module _ {k : CommRing} (C : Curve k) where
   find-absent m [] t = refl
   find-absent m ((a, p) ∷ ts) t = go (eqb m p) t (find-absent m ts)
     where
-      go : (b : Bool) → T (both (unlike b) (absent m (places ts))) → (T (absent m (places ts)) → find m ts ≡ 𝟘) → pick b a (find m ts) ≡ 𝟘
+      go : (b : Bool) → T (both (not b) (absent m (places ts))) → (T (absent m (places ts)) → find m ts ≡ 𝟘) → pick b a (find m ts) ≡ 𝟘
       go true u f = absurd u
       go false u f = f u
 
@@ -154,21 +139,18 @@ module _ {k : CommRing} (C : Curve k) where
   abbrev pub Within : List ℕ → El → Type 0
   Within ps h = (m : ℕ) → T (absent m ps) → coefficient C m h ≡ 𝟘
 
-  pub terms-within : (ts : Terms) → T (distinct (places ts)) → Within (places ts) (terms ts)
+  terms-within : (ts : Terms) → T (distinct (places ts)) → Within (places ts) (terms ts)
   terms-within ts t m u = coefficient-terms ts t m ∙ find-absent m ts u
 
   pub within-neg : (ps : List ℕ) (h : El) → Within ps h → Within ps (⊖ h)
   within-neg ps h w m t = coefficient-neg C m h ∙ ap -ₖ_ (w m t) ∙ L.neg-zero k
-
-  pub within-add : (ps : List ℕ) (g h : El) → Within ps g → Within ps h → Within ps (g ⊕ h)
-  within-add ps g h w v m t = coefficient-add C m g h ∙ ap₂ _+ₖ_ (w m t) (v m t) ∙ k .add-zero 𝟘
 
   -- h at the places ps
   abbrev pub reading : List ℕ → El → Terms
   reading [] h = []
   reading (p ∷ ps) h = (coefficient C p h, p) ∷ reading ps h
 
-  pub reading-places : (ps : List ℕ) (h : El) → places (reading ps h) ≡ ps
+  reading-places : (ps : List ℕ) (h : El) → places (reading ps h) ≡ ps
   reading-places [] h = refl
   reading-places (p ∷ ps) h = ap (λ qs. p ∷ qs) (reading-places ps h)
 
@@ -177,7 +159,7 @@ module _ {k : CommRing} (C : Curve k) where
   find-reading (p ∷ ps) h m w = go (eqb m p) refl (find-reading ps h m) w
     where
       go : (b : Bool) → eqb m p ≡ b → ((T (absent m ps) → coefficient C m h ≡ 𝟘) → find m (reading ps h) ≡ coefficient C m h)
-          → (T (both (unlike b) (absent m ps)) → coefficient C m h ≡ 𝟘)
+          → (T (both (not b) (absent m ps)) → coefficient C m h ≡ 𝟘)
           → pick b (coefficient C p h) (find m (reading ps h)) ≡ coefficient C m h
       go true e f v = ap (λ n. coefficient C n h) (sym (eqb→eq m p (subst T (sym e) tt)))
       go false e f v = f v

@@ -6,12 +6,13 @@
 --   row-coefficient        the coefficients of a polynomial of a record are found in its terms
 --   record-unique          bases with the same ideal are the same record
 use mathlib.Core.Path.{_≡_, refl, sym, _∙_, ap, ap₂, subst}
-use mathlib.Core.Bool.{Bool, true, false}
+use mathlib.Core.Bool.{Bool, true, false, not}
 use mathlib.Core.List.{List, [], _∷_, map}
 use Prim.Native.Nat.{ℕ, zero, suc, _≤_, _<_}
 use native.Mathlib.Omega.{arith}
 use native.Mathlib.Decide.{ℕ-discrete}
-use lib.Dec.{T, eqb, eqb→eq, eqb-refl}
+use lib.Dec.{T, eqb, eqb→eq, eqb-refl, T-not}
+use Rattle.algebra.proofs.Test.{either, both, both-left, both-right}
 use Rattle.algebra.specs.Ring.{CommRing, Field}
 use Rattle.algebra.proofs.Laws as L
 use Rattle.ideal.specs.Ideal.{IsIdeal, SameIdeal}
@@ -20,30 +21,25 @@ use Rattle.ideal.proofs.Every.{Every}
 use Rattle.ideal.proofs.Leads.{Lead, ideal-space, space-neg}
 use Rattle.ideal.proofs.Generated.{generated-ideal, generated-each}
 use Rattle.curve.specs.Curve.{Curve, Coordinate}
-use Rattle.curve.specs.Monomial.{coefficient, pick}
-use Rattle.curve.specs.Term.{coefficient-add, coefficient-neg, pick-true}
-use Rattle.curve.specs.Poles.{poles}
+use Rattle.curve.specs.Sequence.{coefficient, pick}
+use Rattle.curve.proofs.Term.{coefficient-add, coefficient-neg, pick-true}
+use Rattle.poles.specs.Poles.{poles}
 use Rattle.divisor.specs.Kind.{Kind, k0, k11, k21, k22, k31, count, polynomials, IdealOf, IsBasis}
-use Rattle.divisor.proofs.Terms.{Terms, find, places, pole-test, absent, distinct, both, both-left, both-right, unlike, unlike-not, find-absent, coefficient-terms}
+use Rattle.divisor.proofs.Terms.{Terms, find, places, pole-test, absent, distinct, find-absent, coefficient-terms}
 use Rattle.divisor.proofs.Table.{degree, Reached, kind-by, degree-class, remaining-poles, reached-absent, Row, rows, poles-of, fill, row-terms, row-value, polynomials-rows}
 use Rattle.divisor.proofs.Basis.{Bare, bare-made, basis-lead, lead-basis}
-
--- The tests of the table of rows: a row's pole numbers are distinct, the lower ones remain, and every number of a record has its place.
-abbrev either : Bool → Bool → Bool
-either true b = true
-either false b = b
 
 -- every number of ps is in qs
 abbrev inside : List ℕ → List ℕ → Bool
 inside [] qs = true
-inside (p ∷ ps) qs = both (unlike (absent p qs)) (inside ps qs)
+inside (p ∷ ps) qs = both (not (absent p qs)) (inside ps qs)
 
 inside-absent : (ps qs : List ℕ) (m : ℕ) → T (inside ps qs) → T (absent m qs) → T (absent m ps)
 inside-absent [] qs m t u = tt
-inside-absent (p ∷ ps) qs m t u = go (eqb m p) refl (inside-absent ps qs m (both-right (unlike (absent p qs)) (inside ps qs) t) u)
+inside-absent (p ∷ ps) qs m t u = go (eqb m p) refl (inside-absent ps qs m (both-right (not (absent p qs)) (inside ps qs) t) u)
   where
-    go : (b : Bool) → eqb m p ≡ b → T (absent m ps) → T (both (unlike b) (absent m ps))
-    go true e v = absurd (unlike-not (absent p qs) (both-left (unlike (absent p qs)) (inside ps qs) t) (subst (λ (q : ℕ). T (absent q qs)) (eqb→eq m p (subst T (sym e) tt)) u))
+    go : (b : Bool) → eqb m p ≡ b → T (absent m ps) → T (both (not b) (absent m ps))
+    go true e v = absurd (T-not (absent p qs) (both-left (not (absent p qs)) (inside ps qs) t) (subst (λ (q : ℕ). T (absent q qs)) (eqb→eq m p (subst T (sym e) tt)) u))
     go false e v = v
 
 abbrev row-test : Kind → Row → Bool

@@ -8,7 +8,7 @@
 --   31              40      f0, f1, f2, g0, …, h2 x² + f2·y + f1·x + f0; xy + g2·y + g1·x + g0; y² + h2·y + h1·x + h0     1, x, y
 --
 --   Kind, code κ, count κ       the five kinds, the kind's number, how many numbers its record has
---   kinds                       all of them, in the order of the table
+--   size κ                      how many bytes its record has
 --   polynomials C κ n           the polynomials of a record
 --   remaining C κ               the remaining monomials
 --   IdealOf C κ n               the ideal that the polynomials generate in the ring
@@ -23,9 +23,6 @@ use Rattle.curve.specs.Curve.{Curve, Coordinate, x, y, constant}
 
 pub data Kind : Type 0 where
   k0 k11 k21 k22 k31 : Kind
-
-abbrev pub kinds : List Kind
-kinds = k0 ∷ k11 ∷ k21 ∷ k22 ∷ k31 ∷ []
 
 abbrev pub code : Kind → ℕ
 code k0 = 0

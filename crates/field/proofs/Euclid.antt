@@ -7,16 +7,15 @@
 --   middle-bound state-bound  t0 and t1 are at most p
 --   end-zero                  0 is the inverse of 0
 --   end-first end-second      −t0 is the inverse of a if r0 = 1, and t1 is if r1 = 1
-use mathlib.Core.Path.{_≡_, refl, sym, _∙_, ap}
+use mathlib.Core.Path.{_≡_, sym, _∙_, ap}
 use Prim.Native.Nat.{ℕ, zero, suc, _+_, _*_, _-_, _/_, _%_, _≤_, _<_}
 use native.Mathlib.Nat.{div-add-mod', mod-lt, add-comm, mul-comm, mul-le-mul-right, mul-mod-right, add-mul-mod-self-right}
 use native.Mathlib.Omega.{arith}
-use Rattle.algebra.specs.Ring.{CommRing}
 use Rattle.prime.specs.Prime.{Prime}
 use Rattle.field.specs.Residue.{Z, el}
-use Rattle.field.specs.Element.{el-add, el-mul, el-zero, el-one, el-neg, el-pos, el-same, el-rest}
-use Rattle.field.specs.Inverse.{inverse, inverse-zero}
-use Rattle.field.specs.Field.{prime-large, prime-rest, inverse-unique}
+use Rattle.field.proofs.Element.{el-mul, el-zero, el-one, el-neg, el-pos, el-same, el-rest}
+use Rattle.field.specs.Inverse.{inverse}
+use Rattle.field.proofs.Invert.{inverse-zero, prime-large, prime-rest, inverse-unique}
 use Rattle.field.specs.Contract.{Is}
 
 pub record Turn (p a r0 r1 t0 t1 : ℕ) : Type 0 where
@@ -127,7 +126,10 @@ module _ {p a r0 r1 t0 t1 : ℕ} where
     end-second s e =
         record {
           below = omega (arith, s .turn .whole, mul-le-mul-right {m = 2} {n = r0} t1 (omega arith));
-          is = inverse-unique p h (el p a) (el p t1) (el-pos p a pos below) (sym (el-mul p a t1) ∙ ap (el p) (mul-comm a t1 ∙ s .turn .second .1 ∙ ap (λ (n : ℕ). n + s .turn .second .0 * p) e) ∙ el-multiple p 1 (s .turn .second .0) ∙ el-one p);
+          is =
+              inverse-unique p h (el p a) (el p t1) (el-pos p a pos below)
+              (sym (el-mul p a t1) ∙ ap (el p) (mul-comm a t1 ∙ s .turn .second .1 ∙ ap (λ (n : ℕ). n + s .turn .second .0 * p) e)
+              ∙ el-multiple p 1 (s .turn .second .0) ∙ el-one p);
         }
 
 pub end-zero : (p a : ℕ) → Prime p → a ≡ 0 → Is p 0 (inverse p (el p a))

@@ -1,5 +1,6 @@
--- Laws that the functions' proofs cite.
+-- Laws of residues and of inverses, and laws that the functions' proofs cite.
+pub mod Element
+pub mod Invert
 pub mod Sums
 pub mod Products
 pub mod Euclid
-pub mod Number

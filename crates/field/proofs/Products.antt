@@ -6,15 +6,14 @@
 --   product-sum             a·b + c
 --   product-difference      c − a·b
 --   negated                 a·(p − b) has the residue of −(a·b)
-use mathlib.Core.Path.{_≡_, refl, sym, _∙_, ap}
+use mathlib.Core.Path.{_≡_, sym, _∙_, ap}
 use Prim.Native.Nat.{ℕ, _+_, _*_, _-_, _%_, _≤_, _<_}
 use native.Mathlib.Nat.{mod-lt, mul-add, mul-le-mul}
 use native.Mathlib.Omega.{arith}
 use mir.Val.{Fits}
 use mir.Syntax.{w32, w64}
-use Rattle.algebra.specs.Ring.{CommRing}
 use Rattle.field.specs.Residue.{Z, el}
-use Rattle.field.specs.Element.{cancel, el-add, el-mul, el-mod, el-neg, el-zero, el-self}
+use Rattle.field.proofs.Element.{cancel, el-add, el-mul, el-mod, el-zero, el-self}
 use Rattle.field.specs.Contract.{Is}
 
 square : (a b : ℕ) → a < 4294967296 → b < 4294967296 → a * b ≤ 18446744065119617025

@@ -2,16 +2,15 @@
 --   sum-small sum-large               a + b below p, and from p on
 --   difference-large difference-small a − b where a ≥ b, and where a < b
 --   negative-zero negative-more       −a where a = 0, and where a > 0
-use mathlib.Core.Path.{_≡_, refl, sym, _∙_, ap}
+use mathlib.Core.Path.{_≡_, sym, _∙_, ap}
 use Prim.Native.Nat.{ℕ, _+_, _-_, _≤_, _<_}
 use native.Mathlib.Omega.{arith}
-use Rattle.algebra.specs.Ring.{CommRing}
 use Rattle.field.specs.Residue.{Z, el}
-use Rattle.field.specs.Element.{el-add, el-zero, el-self, el-neg, el-sub}
+use Rattle.field.proofs.Element.{el-add, el-zero, el-self, el-neg, el-sub}
 use Rattle.field.specs.Contract.{Is}
 
 -- el (r + p) = el r
-pub el-turn : (p r : ℕ) → el p (r + p) ≡ el p r
+el-turn : (p r : ℕ) → el p (r + p) ≡ el p r
 el-turn p r = el-add p r p ∙ ap (Z p .add (el p r)) (el-self p) ∙ Z p .add-zero _
 
 module _ (p a b : ℕ) where

@@ -1,7 +1,4 @@
--- The ring of residues modulo p, the field of p elements, and what the functions require and ensure.
-pub mod Remainder
+-- The ring of residues modulo p, inverses, and what the functions require and ensure.
 pub mod Residue
-pub mod Element
 pub mod Inverse
-pub mod Field
 pub mod Contract

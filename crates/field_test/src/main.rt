@@ -1,72 +1,80 @@
-// Checks of the arithmetic modulo p at the least and the largest moduli: each is proved from the contracts, and run.
-use check::expect;
-
-// p = 2.
-fn two() {
-    expect(field::add(2, 1, 1) == 0);
-    expect(field::sub(2, 0, 1) == 1);
-    expect(field::neg(2, 1) == 1);
-    expect(field::mul(2, 1, 1) == 1);
-    expect(field::inverse(2, 1) == 1);
-    expect(field::inverse(2, 0) == 0);
+// Writes results of the arithmetic modulo p at the least and the largest moduli. A line has p, a, b and c, and then a + b, a − b, −a,
+// a·b, a·b + c, c − a·b and the inverse of a, which is 0 where a is 0.
+fn number(n: u32) {
+    io::write_all(1, b" ");
+    io::print_decimal(1, n as u64);
 }
 
-// p = 3.
-fn three() {
-    expect(field::add(3, 1, 1) == 2);
-    expect(field::sub(3, 1, 2) == 2);
-    expect(field::neg(3, 0) == 0);
-    expect(field::mul(3, 2, 2) == 1);
-    expect(field::mul_add(3, 2, 2, 2) == 0);
-    expect(field::mul_sub(3, 2, 2, 0) == 2);
-    expect(field::inverse(3, 2) == 2);
+// The inverse of a, where p is a prime above a.
+fn inverse(p: u32, a: u32) {
+    if p <= a {
+        return;
+    }
+    if !prime::is_prime(p) {
+        return;
+    }
+    number(field::inverse(p, a));
 }
 
-// p = 5.
-fn five() {
-    expect(field::add(5, 3, 4) == 2);
-    expect(field::sub(5, 4, 3) == 1);
-    expect(field::neg(5, 2) == 3);
-    expect(field::mul(5, 3, 4) == 2);
-    expect(field::mul_add(5, 4, 3, 4) == 1);
-    expect(field::mul_sub(5, 3, 3, 1) == 2);
-    expect(field::inverse(5, 2) == 3);
-    expect(field::inverse(5, 3) == 2);
-    expect(field::inverse(5, 4) == 4);
+fn line(p: u32, a: u32, b: u32, c: u32) {
+    if p <= a {
+        return;
+    }
+    if p <= b {
+        return;
+    }
+    if p <= c {
+        return;
+    }
+    io::print_decimal(1, p as u64);
+    number(a);
+    number(b);
+    number(c);
+    io::write_all(1, b":");
+    number(field::add(p, a, b));
+    number(field::sub(p, a, b));
+    number(field::neg(p, a));
+    number(field::mul(p, a, b));
+    number(field::mul_add(p, a, b, c));
+    number(field::mul_sub(p, a, b, c));
+    inverse(p, a);
+    io::write_all(1, b"\n");
+}
+
+// p = 2, 3 and 5.
+fn small() {
+    line(2, 0, 0, 0);
+    line(2, 0, 1, 1);
+    line(2, 1, 1, 1);
+    line(3, 0, 2, 1);
+    line(3, 1, 2, 0);
+    line(3, 2, 2, 2);
+    line(5, 1, 3, 4);
+    line(5, 2, 4, 1);
+    line(5, 3, 3, 1);
+    line(5, 4, 3, 4);
 }
 
 // p = 2^31 − 1, the largest that the calls take.
 fn mersenne() {
-    expect(field::add(2147483647, 2147483646, 2147483646) == 2147483645);
-    expect(field::sub(2147483647, 0, 2147483646) == 1);
-    expect(field::neg(2147483647, 2147483645) == 2);
-    expect(field::mul(2147483647, 2147483646, 2147483645) == 2);
-    expect(field::mul_add(2147483647, 2147483646, 2147483646, 2147483646) == 0);
-    expect(field::mul_sub(2147483647, 2147483646, 2147483646, 2147483646) == 2147483645);
-    expect(field::mul_sub(2147483647, 123456789, 0, 5) == 5);
-    expect(field::inverse(2147483647, 2147483646) == 2147483646);
-    expect(field::inverse(2147483647, 123456789) == 391219981);
-    expect(field::inverse(2147483647, 2) == 1073741824);
+    line(2147483647, 0, 2147483646, 5);
+    line(2147483647, 2, 2147483645, 2147483646);
+    line(2147483647, 123456789, 987654321, 5);
+    line(2147483647, 1073741824, 2, 1);
+    line(2147483647, 2147483646, 2147483646, 2147483646);
 }
 
 // p = 2^32 − 5, the largest prime below 2^32.
 fn largest() {
-    expect(field::add(4294967291, 4294967290, 4294967290) == 4294967289);
-    expect(field::sub(4294967291, 0, 4294967290) == 1);
-    expect(field::neg(4294967291, 4294967289) == 2);
-    expect(field::mul(4294967291, 4294967290, 4294967289) == 2);
-    expect(field::mul_add(4294967291, 4294967290, 4294967290, 4294967290) == 0);
-    expect(field::mul_sub(4294967291, 4294967290, 4294967290, 4294967290) == 4294967289);
-    expect(field::mul_sub(4294967291, 123456789, 0, 5) == 5);
-    expect(field::inverse(4294967291, 4294967290) == 4294967290);
-    expect(field::inverse(4294967291, 123456789) == 2196879611);
-    expect(field::inverse(4294967291, 2) == 2147483646);
+    line(4294967291, 0, 4294967290, 5);
+    line(4294967291, 2, 4294967289, 4294967290);
+    line(4294967291, 123456789, 987654321, 5);
+    line(4294967291, 2147483646, 2, 1);
+    line(4294967291, 4294967290, 4294967290, 4294967290);
 }
 
 fn main() {
-    two();
-    three();
-    five();
+    small();
     mersenne();
     largest();
 }

@@ -5,7 +5,7 @@ use Prim.Native.Nat.{ℕ}
 use Rattle.algebra.specs.Ring.{CommRing}
 use Rattle.algebra.proofs.Laws.{neg-neg, mul-neg}
 use Rattle.field.specs.Residue.{Z, el}
-use Rattle.field.specs.Element.{el-one}
+use Rattle.field.proofs.Element.{el-one}
 use Rattle.field.specs.Contract.{Is}
 use Rattle.triple.specs.Equation.{curve-of}
 use Rattle.triple.specs.declared.equation.Equation.{Equation}

@@ -11,7 +11,8 @@ use mathlib.Core.List.{List}
 use Prim.Native.Nat.{ℕ, _<_}
 use native.Mathlib.Omega.{arith}
 use Rattle.algebra.specs.Ring.{CommRing}
-use Rattle.field.specs.Field.{F, prime-large}
+use Rattle.prime_field.specs.Field.{F}
+use Rattle.field.proofs.Invert.{prime-large}
 use Rattle.ideal.specs.Ideal.{IsIdeal, SameIdeal}
 use Rattle.ideal.proofs.Reduced.{SmallFootprint}
 use Rattle.ideal.proofs.Finite.{BasedIdeal}

@@ -1,7 +1,7 @@
 -- A based space stays based when one element is added, or all multiples of an element.
 --   sum-lead           the lead of u + w is one of u's or w's, if U and W share no lead
 --   Plus U v           u + a·v, u in U and a constant
---   plus-old, plus-new     it holds U and v
+--   plus-old               it holds U
 --   plus-space         it is a space
 --   plus-based         Plus U v is based if U is
 --   divide             r = f·q + t with t below d + 6
@@ -16,7 +16,8 @@ use Rattle.algebra.proofs.Laws as laws
 use Rattle.ideal.specs.Ideal.{IsIdeal, SameIdeal}
 use Rattle.ideal.specs.Poles.{largest-gap, Poles, HasPole}
 use Rattle.ideal.proofs.Gaps.{pole-large}
-use Rattle.ideal.proofs.Degree.{below-neg, below-scale, below-step, degree, lowered, mono-has, one-pole, pole-add, pole-at, pole-cong, pole-mul, pole-nonzero, pole-number, pole-scale, pole-unique, zero-dec}
+use Rattle.ideal.proofs.Degree.{below-neg, below-scale, below-step, degree, lowered, mono-has, one-pole, pole-add}
+use Rattle.ideal.proofs.Degree.{pole-at, pole-cong, pole-mul, pole-nonzero, pole-number, pole-scale, pole-unique, zero-dec}
 use Rattle.ideal.proofs.Leads.{IsSpace, ideal-space, space-neg, Lead, Based, based-same}
 use Rattle.ideal.proofs.Generated.{Extend, extend-ideal}
 use Rattle.ideal.proofs.Rules as rules
@@ -47,9 +48,6 @@ module _ {R : CommRing} (P : Poles R) where
 
   pub plus-old : {U : Car → Type 0} (v : Car) {u : Car} → U u → Plus U v u
   plus-old v {u} m = (zero, u, below-zero 1, m, simp ring)
-
-  pub plus-new : {U : Car → Type 0} (v : Car) → IsSpace P U → Plus U v v
-  plus-new v s = (one, zero, one-pole P .upper, s .nil, simp ring)
 
   pub plus-space : {U : Car → Type 0} (v : Car) → IsSpace P U → IsSpace P (Plus U v)
   plus-space {U} v s = record {
@@ -108,7 +106,9 @@ module _ {R : CommRing} (P : Poles R) where
       at-rest {u} {n} {m} mu p none (no lack) (yes e) = yes (v ⊕ u, (one, u, one-pole P .upper, mu, simp ring), pole-at P (sym e) p)
       at-rest {u} {n} {m} mu p none (no lack) (no e) =
           no
-          (λ (h, (a, t, c, mt, q), ph). ⊎-elim lack (λ l. e (line-lead p l)) (sum-lead {U = U} {W = Line (v ⊕ u)} {u = t ⊕ ⊖ (a ⊗ u)} {w = a ⊗ (v ⊕ u)} (λ k lu lw. none (subst (Lead P U) (line-lead p lw) lu)) (s .sum mt (space-neg P s (s .scale c mu))) (a, c, refl) (pole-cong P (q ∙ simp ring) ph)))
+          (λ (h, (a, t, c, mt, q), ph). ⊎-elim lack (λ l. e (line-lead p l))
+          (sum-lead {U = U} {W = Line (v ⊕ u)} {u = t ⊕ ⊖ (a ⊗ u)} {w = a ⊗ (v ⊕ u)} (λ k lu lw. none (subst (Lead P U) (line-lead p lw) lu))
+          (s .sum mt (space-neg P s (s .scale c mu))) (a, c, refl) (pole-cong P (q ∙ simp ring) ph)))
 
       go : Rest U v → Based P (Plus U v)
       go (u, mu, inl e) = based-same P (inside (subst U (sym (rules.move R e ∙ laws.zero-add R (⊖ u))) (space-neg P s mu))) base
@@ -179,7 +179,8 @@ module _ {R : CommRing} (P : Poles R) where
           go : (q t : Car) × Below (suc (n + largest-gap)) t × (r ≡ f ⊗ q ⊕ t) → Adjoin (suc (n + largest-gap)) I g h
           go (q, t, b, e′) =
               subst (Adjoin (suc (n + largest-gap)) I g) (sym (e ∙ rw e′ (simp ring)))
-              (adjoin-space (suc (n + largest-gap)) g (ideal-space P i) .sum (adjoin-new (suc (n + largest-gap)) g (ideal-space P i) t b) (adjoin-old (suc (n + largest-gap)) I g ((q ⊗ g) ⊗ f ⊕ s) (i .sum (i .times (q ⊗ g) mf) m)))
+              (adjoin-space (suc (n + largest-gap)) g (ideal-space P i) .sum (adjoin-new (suc (n + largest-gap)) g (ideal-space P i) t b)
+              (adjoin-old (suc (n + largest-gap)) I g ((q ⊗ g) ⊗ f ⊕ s) (i .sum (i .times (q ⊗ g) mf) m)))
 
       same : SameIdeal R (Adjoin (suc (n + largest-gap)) I g) (Extend R I g)
       same h = (adjoin-in (suc (n + largest-gap)) g (λ u m. (zero, u, m, simp ring)) (extend-ideal R g i) (one, zero, i .nil, simp ring) h, back h)

@@ -81,8 +81,10 @@ module _ {R : CommRing} (P : Poles R) where
   pub equivalent-ideal : {J I : Car → Type 0} → Equivalent R J I → IsIdeal R I → IsIdeal R J
   equivalent-ideal {J} {I} e i = record {
     nil = equivalent-member e (i .nil) (simp ring);
-    sum = λ {a = x} {b = y} mx my. equivalent-member e (i .sum (e .there x mx .1) (e .there y my .1)) (R .mul-add (e .a) x y ∙ rw (e .there x mx .2, e .there y my .2) (sym (R .mul-add (e .b) (e .there x mx .0) (e .there y my .0))));
-    times = λ r {a = x} mx. equivalent-member e (i .times r (e .there x mx .1)) (laws.mul-left-comm R (e .a) r x ∙ ap (λ t. r ⊗ t) (e .there x mx .2) ∙ laws.mul-left-comm R r (e .b) (e .there x mx .0));
+    sum = λ {a = x} {b = y} mx my. equivalent-member e (i .sum (e .there x mx .1) (e .there y my .1))
+        (R .mul-add (e .a) x y ∙ rw (e .there x mx .2, e .there y my .2) (sym (R .mul-add (e .b) (e .there x mx .0) (e .there y my .0))));
+    times = λ r {a = x} mx. equivalent-member e (i .times r (e .there x mx .1))
+        (laws.mul-left-comm R (e .a) r x ∙ ap (λ t. r ⊗ t) (e .there x mx .2) ∙ laws.mul-left-comm R r (e .b) (e .there x mx .0));
   }
 
   -- a·g = b·h relates the pole numbers.
@@ -128,8 +130,12 @@ module _ {R : CommRing} (P : Poles R) where
   star-half {I} {J} {f} {f′} s e l l′ g k h mh = go (least-match e (pole-some P (e .a-nonzero) .1) (pole-some P (e .b-nonzero) .1) s l l′) (e .back h mh)
     where
       last : {c i : Car} → e .a ⊗ f ≡ e .b ⊗ (c ⊗ f′) → e .a ⊗ i ≡ e .b ⊗ h → Multiple R f (g ⊗ i) → Multiple R f′ (g ⊗ h)
-      last {c} {i} q q′ (t, qt) =
-          (c ⊗ t, cancel P (e .b-nonzero) (laws.mul-left-comm R (e .b) g h ∙ ap (λ x. g ⊗ x) (sym q′) ∙ laws.mul-left-comm R g (e .a) i ∙ ap (λ x. e .a ⊗ x) qt ∙ sym (R .mul-assoc (e .a) f t) ∙ ap (λ x. x ⊗ t) q ∙ simp ring))
+      last {c} {i} q q′ (t, qt) = (
+        c ⊗ t,
+        cancel P (e .b-nonzero)
+            (laws.mul-left-comm R (e .b) g h ∙ ap (λ x. g ⊗ x) (sym q′) ∙ laws.mul-left-comm R g (e .a) i ∙ ap (λ x. e .a ⊗ x) qt
+            ∙ sym (R .mul-assoc (e .a) f t) ∙ ap (λ x. x ⊗ t) q ∙ simp ring),
+      )
 
       go : (c : Car) × (e .a ⊗ f ≡ e .b ⊗ (c ⊗ f′)) → (i : Car) × I i × (e .a ⊗ i ≡ e .b ⊗ h) → Multiple R f′ (g ⊗ h)
       go (c, q) (i, mi, q′) = last q q′ (k i mi)

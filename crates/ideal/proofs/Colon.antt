@@ -9,7 +9,6 @@
 --   colon-lead         a pole number n is a lead of (f : I) if d + 5 − n is no lead of I
 --   colon-based        (f : I) is based if I is
 --   colon-colon        (f : (f : I)) = I
---   colon-constant     (a·f : I) = (f : I) for a nonzero constant a
 --   colon-same         the colon ideals of sets with the same elements are the same
 use mathlib.Core.Path.{_≡_, refl, sym, _∙_, subst}
 use Prim.Native.Nat.{ℕ, suc, _+_, _-_, _≤_, _<_}
@@ -20,10 +19,9 @@ use Rattle.algebra.proofs.Laws as laws
 use Rattle.ideal.specs.Ideal.{IsIdeal, Multiple, Colon, SameIdeal}
 use Rattle.ideal.specs.Poles.{largest-gap, IsGap, IsPole, Poles, HasPole}
 use Rattle.ideal.proofs.Gaps.{Split, above, across, split, gap-dec, pole-large}
-use Rattle.ideal.proofs.Degree.{below-scale, constant-inverse, mono-has, pole-add, pole-at, pole-cong, pole-mul, pole-number}
+use Rattle.ideal.proofs.Degree.{below-scale, mono-has, pole-add, pole-at, pole-cong, pole-mul, pole-number}
 use Rattle.ideal.proofs.Leads.{IsSpace, ideal-space, Lead, Based, lowering}
 use Rattle.ideal.proofs.Kernel.{Ker, multiple-not, ker-below, ker-multiple, ker-sum, ker-scale, ker-lower, nondegenerate}
-use Rattle.ideal.proofs.Rules as rules
 use Rattle.ideal.proofs.Rules.{ring}
 
 module _ (R : CommRing) where
@@ -58,15 +56,6 @@ module _ {R : CommRing} (P : Poles R) {f : R .Car} {d : ℕ} (pf : HasPole P f d
     where
       go : Multiple R f (g ⊗ u) → ⊥
       go (q, e′) = multiple-not P pf {q = q} (pole-cong P e′ (pole-at P e (pole-mul P pg pu)))
-
-  pub colon-constant : {I : Car → Type 0} {a : Car} → Below 1 a → ¬ (a ≡ zero) → SameIdeal R (Colon R (a ⊗ f) I) (Colon R f I)
-  colon-constant {I} {a} c nz g = (λ k h m. there (k h m), λ k h m. back (constant-inverse P c nz) (k h m))
-    where
-      there : {h : Car} → Multiple R (a ⊗ f) h → Multiple R f h
-      there (q, e) = (a ⊗ q, e ∙ simp ring)
-
-      back : {h : Car} → (b : Car) × Below 1 b × (a ⊗ b ≡ one) → Multiple R f h → Multiple R (a ⊗ f) h
-      back (b, _, e) (q, e′) = (b ⊗ q, e′ ∙ sym (rules.unscale R a b f q e))
 
   module _ {I : Car → Type 0} (ideal : IsIdeal R I) where
     pub ker-colon : {g : Car} → ((u : Car) → I u → Ker P f d (g ⊗ u)) → Colon R f I g

@@ -15,7 +15,6 @@
 --   pole-add, pole-mul, pole-neg   pole numbers of sums, products, negatives
 --   pole-scale                     … and of nonzero constant multiples
 --   domain, cancel, mul-nonzero    R is a domain
---   constant-inverse               a nonzero constant is invertible
 --   monic-pole, monic-multiple     monic elements, and the monic constant multiple of an element
 use mathlib.Core.Path.{_≡_, sym, _∙_, ap, subst}
 use mathlib.Core.Logic.{_⊎_, inl, inr, ⊎-elim}
@@ -142,12 +141,6 @@ module _ {R : CommRing} (P : Poles R) where
 
   pub cancel : {a g h : Car} → ¬ (a ≡ zero) → a ⊗ g ≡ a ⊗ h → g ≡ h
   cancel {a} {g} {h} na e = laws.cancel-left R (⊖ h) g h (laws.plus-comm R (⊖ h) g ∙ domain na (simp ring (rw e (simp ring))) ∙ sym (laws.neg-add R h))
-
-  pub constant-inverse : {a : Car} → Below 1 a → ¬ (a ≡ zero) → (b : Car) × Below 1 b × (a ⊗ b ≡ one)
-  constant-inverse {a} c nz = go (lower (one-pole .upper) c (constant-pole c nz .exact))
-    where
-      go : (b : Car) × Below 1 b × Below 0 (one ⊕ b ⊗ a) → (b : Car) × Below 1 b × (a ⊗ b ≡ one)
-      go (b, k, z) = (⊖ b, below-neg k, simp ring (sym (laws.neg-unique R (a ⊗ b) one (simp ring (simp ring at (below-none z))))))
 
   pub lowered : {n : ℕ} {g h : Car} → Below (suc n) g → HasPole P h n → (a : Car) × Below 1 a × Below n (g ⊕ a ⊗ h)
   lowered b p = lower b (p .upper) (p .exact)

@@ -1,8 +1,6 @@
 -- Based ideals are the finitely generated ones: generated ideals and products are based.
 --   BasedIdeal I           I is a based ideal with a nonzero element
 --   footprint-based        an ideal with a small footprint is one
---   lead-same              sets with the same elements have the same leads
---   based-ideal-same       … and so is a set with the same elements
 --   multiple-based         the multiples of an element with a pole number are based
 --   generated-lead         a finite list generates the zero ideal or an ideal with a lead
 --   generated-based        Generated gs is based
@@ -20,7 +18,6 @@ use native.Mathlib.Omega.{arith}
 use Rattle.algebra.specs.Ring.{CommRing}
 use Rattle.ideal.specs.Ideal.{IsIdeal, Generated, Product, ProductOf, Multiple, SameIdeal}
 use Rattle.ideal.specs.Poles.{largest-gap, IsGap, IsPole, Poles, HasPole}
-use Rattle.ideal.proofs.Same.{ideal-same}
 use Rattle.ideal.proofs.Gaps.{gap-dec, pole-large}
 use Rattle.ideal.proofs.Degree.{degree, mono-has, one-pole, pole-at, pole-cong, pole-mul, pole-nonzero, pole-number}
 use Rattle.ideal.proofs.Every.{Every}
@@ -45,12 +42,6 @@ module _ {R : CommRing} (P : Poles R) where
 
   pub footprint-based : {A : Car → Type 0} → SmallFootprint P A → BasedIdeal A
   footprint-based s = record { ideal = s .ideal; based = s .based; pole = 6; lead = s .leads 6 (omega arith) }
-
-  pub lead-same : {I J : Car → Type 0} {n : ℕ} → SameIdeal R I J → Lead P I n → Lead P J n
-  lead-same e (u, m, p) = (u, e u .0 m, p)
-
-  pub based-ideal-same : {I J : Car → Type 0} → SameIdeal R I J → BasedIdeal I → BasedIdeal J
-  based-ideal-same e b = record { ideal = ideal-same R e (b .ideal); based = based-same P e (b .based); pole = b .pole; lead = lead-same e (b .lead) }
 
   pub multiple-based : {f : Car} {d : ℕ} → HasPole P f d → Based P (Multiple R f)
   multiple-based {f} {d} pf n = go (decLe d n) (gap-dec (n - d))
@@ -127,8 +118,12 @@ module _ {R : CommRing} (P : Poles R) where
 
           at : (m : ℕ) → Lead P I m → Dec (m < suc (b .pole + largest-gap)) → Lead P (Generated R (f ∷ gs)) m
           at m lead (yes h) = more-leads (have m h lead)
-          at m lead (no h) =
-              (mono (m - b .pole) ⊗ f, generated-ideal R (f ∷ gs) .times (mono (m - b .pole)) (generated-first R f gs), pole-at P (omega arith) (pole-mul P (mono-has P {n = m - b .pole} (pole-large (omega arith))) pf))
+          at m lead (no h) = (
+            mono (m - b .pole) ⊗ f,
+            generated-ideal R (f ∷ gs) .times (mono (m - b .pole)) (generated-first R f gs),
+            pole-at P (omega arith)
+                (pole-mul P (mono-has P {n = m - b .pole} (pole-large (omega arith))) pf),
+          )
 
   pub product-based : {I J : Car → Type 0} → BasedIdeal I → BasedIdeal J → BasedIdeal (Product R I J)
   product-based {I} {J} b c = go (generators b) (generators c)

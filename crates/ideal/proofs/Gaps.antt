@@ -6,7 +6,6 @@
 --   gap-dec            it is decidable whether a number is a gap
 --   Split d m          m − d is a pole number, or d + 5 − m is one
 --   split              one of the two always holds
---   split-apart        not both hold
 use mathlib.Core.Path.{_≡_}
 use mathlib.Core.Logic.{inl, inr, ⊎-elim}
 use Prim.Native.Nat.{ℕ, _+_, _-_, _≤_}
@@ -55,13 +54,3 @@ split d m = go (decLe d m)
     go : Dec (d ≤ m) → Split d m
     go (yes l) = at l (gap-dec (m - d))
     go (no l) = across {s = d + largest-gap - m} (pole-large (omega arith)) (omega arith)
-
--- Two pole numbers never add up to the largest gap.
-pub split-apart : {s t : ℕ} → IsPole s → IsPole t → s + t ≡ largest-gap → ⊥
-split-apart {s} {t} p q e = go (ℕ-discrete s 0) (ℕ-discrete s 3) (ℕ-discrete s 4)
-  where
-    go : Dec (s ≡ 0) → Dec (s ≡ 3) → Dec (s ≡ 4) → ⊥
-    go (yes h) b c = omega (arith, pole-apart q)
-    go (no a) (yes h) c = omega (arith, pole-apart q)
-    go (no a) (no b) (yes h) = omega (arith, pole-apart q)
-    go (no a) (no b) (no c) = omega (arith, pole-apart p)

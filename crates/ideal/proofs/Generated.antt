@@ -5,7 +5,6 @@
 --   generated-each         it holds each element of gs
 --   generated-first, generated-rest    … and what the rest of gs generates
 --   generated-in           an ideal that holds each element of gs holds it
---   generated-same         two lists that generate each other's elements generate the same ideal
 --   products gs hs         the products of one element from each list
 --   products-each          they are in I·J if gs is in I and hs in J
 --   products-source        what holds of each of them holds of each g·h
@@ -62,9 +61,6 @@ module _ (R : CommRing) where
   generated-in {I} i [] _ h e = subst I (sym e) (i .nil)
   generated-in {I} i (g ∷ gs) (m, ms) h (r, s, ms′, e) = subst I (sym e) (i .sum (i .times r m) (generated-in i gs ms s ms′))
 
-  pub generated-same : (gs hs : List Car) → Every (Generated R hs) gs → Every (Generated R gs) hs → SameIdeal R (Generated R gs) (Generated R hs)
-  generated-same gs hs ms ns h = (generated-in (generated-ideal hs) gs ms h, generated-in (generated-ideal gs) hs ns h)
-
   abbrev pub products : List Car → List Car → List Car
   products [] hs = []
   products (g ∷ gs) hs = map (λ h. g ⊗ h) hs ++ products gs hs
@@ -92,7 +88,8 @@ module _ (R : CommRing) where
           → Every (λ g. Generated R (products gs hs) (g ⊗ b)) gs
       row b mb =
           every-map
-          (λ g ms. subst (Generated R (products gs hs)) (R .mul-comm b g) (generated-in (taken-ideal R g t) hs (every-map (λ h m. subst (Generated R (products gs hs)) (R .mul-comm g h) m) hs ms) b mb)) gs
+          (λ g ms. subst (Generated R (products gs hs)) (R .mul-comm b g)
+          (generated-in (taken-ideal R g t) hs (every-map (λ h m. subst (Generated R (products gs hs)) (R .mul-comm g h) m) hs ms) b mb)) gs
 
       each : (a b : Car) → Generated R gs a → Generated R hs b → Generated R (products gs hs) (a ⊗ b)
       each a b ma mb =

@@ -4,7 +4,7 @@
 --   multiple-pole                  the pole number of a multiple of f is d + s, s a pole number
 --   multiple-not                   … so it is not d + 5
 --   ker-below, ker-multiple        what is below d + 5, and each multiple of f, is in the kernel
---   ker-sum, ker-scale, ker-neg    the kernel is a space
+--   ker-sum, ker-scale             the kernel is a space
 --   ker-more, ker-less             multiples of f may be added and taken away
 --   ker-not                        no element of pole number d + 5 is in the kernel
 --   ker-lower                      a constant multiple of an element of pole number d + 5 takes h into the kernel
@@ -19,7 +19,7 @@ use Rattle.algebra.proofs.Laws as laws
 use Rattle.ideal.specs.Ideal.{Multiple}
 use Rattle.ideal.specs.Poles.{largest-gap, IsPole, Poles, HasPole}
 use Rattle.ideal.proofs.Gaps.{Split, above, across, split, pole-apart, pole-large}
-use Rattle.ideal.proofs.Degree.{below-scale, below-step, degree, lowered, mono-has, neg-one-constant, pole-add, pole-at, pole-cong, pole-mul, pole-neg, pole-nonzero, pole-number, pole-unique}
+use Rattle.ideal.proofs.Degree.{below-scale, below-step, degree, lowered, mono-has, pole-add, pole-at, pole-cong, pole-mul, pole-neg, pole-nonzero, pole-number, pole-unique}
 use Rattle.ideal.proofs.Rules as rules
 use Rattle.ideal.proofs.Rules.{ring}
 
@@ -61,9 +61,6 @@ module _ {R : CommRing} (P : Poles R) where
 
     pub ker-scale : {a h : Car} → Below 1 a → Ker f d h → Ker f d (a ⊗ h)
     ker-scale {a} {h} c (q, b) = (a ⊗ q, subst (Below (d + largest-gap)) (simp ring) (below-scale P c b))
-
-    pub ker-neg : {h : Car} → Ker f d h → Ker f d (⊖ h)
-    ker-neg {h} k = subst (Ker f d) (simp ring) (ker-scale (neg-one-constant P) k)
 
     pub ker-not : {h : Car} → HasPole P h (d + largest-gap) → ¬ Ker f d h
     ker-not {h} p (q, b) = multiple-not {q = q} (pole-cong P (simp ring) (pole-add P (pole-neg P p) b))

@@ -12,7 +12,6 @@
 --   productof-swap         two neighbours may change places
 --   productof-one          the product of one ideal
 --   product-equivalent     I ~ I′ and J ~ J′ give I·J ~ I′·J′; product-equivalent-left and -right: for one factor
---   productof-equivalent   … and so for lists
 --   productof-join         if A ~ ∏ xs and B ~ ∏ ys, then A·B ~ ∏ (xs ++ ys)
 use mathlib.Core.Path.{_≡_, refl, sym, _∙_, ap, subst}
 use mathlib.Core.Logic.{Iff·rfl, Iff·symm, Iff·trans}
@@ -22,7 +21,7 @@ use Rattle.algebra.proofs.Laws as laws
 use Rattle.ideal.specs.Ideal.{IsIdeal, Product, none, more, ProductOf, SameIdeal, Equivalent}
 use Rattle.ideal.specs.Poles.{Poles}
 use Rattle.ideal.proofs.Every.{Every}
-use Rattle.ideal.proofs.Class.{equivalent-refl, equivalent-same, equivalent-sym, equivalent-trans}
+use Rattle.ideal.proofs.Class.{equivalent-same, equivalent-sym, equivalent-trans}
 
 module _ (R : CommRing) where
   open CommRing R using (Car, zero, add as _⊕_, mul as _⊗_)
@@ -113,8 +112,12 @@ module _ {R : CommRing} (P : Poles R) where
   there-product {I} {I′} {J} {a} {b} f (more {a = x} {b = y} {s} {h = g} ix jy p e) = go (f x ix) (there-product f p)
     where
       go : (h : Car) × I′ h × (a ⊗ x ≡ b ⊗ h) → (t : Car) × Product R I′ J t × (a ⊗ s ≡ b ⊗ t) → (h : Car) × Product R I′ J h × (a ⊗ g ≡ b ⊗ h)
-      go (h, ih, q) (t, pt, q′) =
-          (h ⊗ y ⊕ t, more ih jy pt refl, ap (λ z. a ⊗ z) e ∙ R .mul-add a (x ⊗ y) s ∙ rw q′ (sym (R .mul-add b (h ⊗ y) t ∙ ap (λ z. z ⊕ b ⊗ t) (sym (R .mul-assoc b h y) ∙ ap (λ z. z ⊗ y) (sym q) ∙ R .mul-assoc a x y))))
+      go (h, ih, q) (t, pt, q′) = (
+        h ⊗ y ⊕ t,
+        more ih jy pt refl,
+        ap (λ z. a ⊗ z) e ∙ R .mul-add a (x ⊗ y) s
+            ∙ rw q′ (sym (R .mul-add b (h ⊗ y) t ∙ ap (λ z. z ⊕ b ⊗ t) (sym (R .mul-assoc b h y) ∙ ap (λ z. z ⊗ y) (sym q) ∙ R .mul-assoc a x y))),
+      )
 
   back-product : {I I′ J : Car → Type 0} {a b : Car} → ((h : Car) → I′ h → (g : Car) × I g × (a ⊗ g ≡ b ⊗ h)) → {h : Car} → Product R I′ J h
       → (g : Car) × Product R I J g × (a ⊗ g ≡ b ⊗ h)
@@ -130,17 +133,12 @@ module _ {R : CommRing} (P : Poles R) where
   product-equivalent-left e =
       record { a = e .a; b = e .b; a-nonzero = e .a-nonzero; b-nonzero = e .b-nonzero; there = λ g. there-product (e .there); back = λ h. back-product (e .back) }
 
-  pub product-equivalent-right : {I J J′ : Car → Type 0} → Equivalent R J J′ → Equivalent R (Product R I J) (Product R I J′)
+  product-equivalent-right : {I J J′ : Car → Type 0} → Equivalent R J J′ → Equivalent R (Product R I J) (Product R I J′)
   product-equivalent-right e =
       equivalent-trans P (equivalent-same P (product-comm R)) (equivalent-trans P (product-equivalent-left e) (equivalent-same P (product-comm R)))
 
   pub product-equivalent : {I I′ J J′ : Car → Type 0} → Equivalent R I I′ → Equivalent R J J′ → Equivalent R (Product R I J) (Product R I′ J′)
   product-equivalent e e′ = equivalent-trans P (product-equivalent-left e) (product-equivalent-right e′)
-
-  pub productof-equivalent : {X : Type 0} (f g : X → Car → Type 0) (xs : List X) → Every (λ x. Equivalent R (f x) (g x)) xs
-      → Equivalent R (ProductOf R f xs) (ProductOf R g xs)
-  productof-equivalent f g [] _ = equivalent-refl P (λ _. Unit)
-  productof-equivalent f g (x ∷ xs) (e, es) = product-equivalent e (productof-equivalent f g xs es)
 
   -- The product of two sums is the sum of the joined groups.
   pub productof-join : {X : Type 0} (f : X → Car → Type 0) {A B : Car → Type 0} (xs ys : List X) → Every (λ x. IsIdeal R (f x)) xs

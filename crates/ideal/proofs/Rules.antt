@@ -1,6 +1,5 @@
 -- Rearrangements in a commutative ring that the theory of ideals uses.
 --   move               a + b = c gives a = c − b
---   unscale            a·b = 1 gives (a·f)·(b·q) = f·q
 --   neg-second … neg-third-more    cancelling at a distance, rules of `ring`
 --   ring               algebra's rule set for simp, with cancelling at a greater distance
 use mathlib.Core.Path.{_≡_, sym, _∙_, ap}
@@ -15,10 +14,6 @@ module _ (R : CommRing) where
   infix 80 ⊖_
   pub move : {a b c : Car} → a ⊕ b ≡ c → a ≡ c ⊕ ⊖ b
   move {a} {b} {c} e = sym (add-zero a) ∙ ap (λ t. a ⊕ t) (sym (add-neg b)) ∙ sym (add-assoc a b (⊖ b)) ∙ ap (λ t. t ⊕ ⊖ b) e
-
-  pub unscale : (a b f q : Car) → a ⊗ b ≡ one → (a ⊗ f) ⊗ (b ⊗ q) ≡ f ⊗ q
-  unscale a b f q e =
-      mul-assoc a f (b ⊗ q) ∙ ap (λ t. a ⊗ t) (laws.mul-left-comm R f b q) ∙ sym (mul-assoc a b (f ⊗ q)) ∙ ap (λ t. t ⊗ (f ⊗ q)) e ∙ laws.one-mul R (f ⊗ q)
 
   pub neg-second : (a b : Car) → ⊖ a ⊕ (b ⊕ a) ≡ b
   neg-second a b = laws.add-left-comm R (⊖ a) b a ∙ ap (λ t. b ⊕ t) (laws.neg-add R a) ∙ add-zero b

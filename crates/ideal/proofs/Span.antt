@@ -3,7 +3,6 @@
 --   inx-sum, inx-scale, inx-x, inx-mul, inx-constant, inx-one    k[x] is closed under sums, products and constants
 --   three-pole, four-pole  3 and 4 are pole numbers
 --   inx-pole               the pole number of p is a multiple of 3
---   x-power i              xⁱ; x-power-pole, inx-power, inx-monomial: its pole number is 3·i, and c·xⁱ is in k[x]
 --   Span bs                p₁·b₁ + … + pₙ·bₙ with the pᵢ in k[x]
 --   span-nil, span-sum, span-times, span-x, span-space    it is a space, closed under multiples from k[x]
 --   span-first, span-rest, span-each    it holds each b
@@ -94,23 +93,6 @@ module _ {R : CommRing} (P : Poles R) where
       go : ((m : ℕ) → HasPole P q m → (j : ℕ) × (m ≡ 3 * j)) → (q ≡ zero) ⊎ ((m : ℕ) × HasPole P q m) → (j : ℕ) × (n ≡ 3 * j)
       go ih (inl z) = (0, omega (arith, pole-below P (pole-cong P (e ∙ rw z (simp ring)) ph) b))
       go ih (inr (m, pq)) = next pq (ih m pq)
-
-  unfoldable pub x-power : ℕ → Car
-  x-power ℕ.zero = one
-  x-power (suc i) = x ⊗ x-power i
-
-  pub x-power-pole : (i : ℕ) → HasPole P (x-power i) (3 * i)
-  unfolding x-power
-  x-power-pole ℕ.zero = pole-at P (omega arith) (one-pole P)
-  x-power-pole (suc i) = pole-at P (omega arith) (pole-mul P (mono-has P three-pole) (x-power-pole i))
-
-  pub inx-power : (i : ℕ) → InX (x-power i)
-  unfolding x-power
-  inx-power ℕ.zero = inx-constant (one-pole P .upper)
-  inx-power (suc i) = inx-x (inx-power i)
-
-  pub inx-monomial : {c : Car} → Below 1 c → (i : ℕ) → InX (c ⊗ x-power i)
-  inx-monomial b i = inx-scale b (inx-power i)
 
   abbrev pub Span : List Car → Car → Type 0
   Span [] h = h ≡ zero

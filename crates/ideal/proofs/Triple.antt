@@ -6,7 +6,6 @@
 --   triple-lead        each lead of the span is reached by one of the three pole numbers
 --   triple-reach       … and each number so reached is a lead
 --   triple-based       so the span is based
---   triple-lowest      its pole numbers are at least the lowest of the three
 use mathlib.Core.Path.{_≡_, refl, sym, _∙_, ap, subst}
 use mathlib.Core.Logic.{_⊎_, inl, inr, ⊎-elim}
 use mathlib.Core.List.{List, [], _∷_}
@@ -86,6 +85,3 @@ module _ {R : CommRing} (P : Poles R) where
         go (no a) (yes r) c = yes (triple-reach n (inr (inl r)))
         go (no a) (no b) (yes r) = yes (triple-reach n (inr (inr r)))
         go (no a) (no b) (no c) = no (λ l. ⊎-elim a (⊎-elim b c) (triple-lead n l))
-
-    pub triple-lowest : {d : ℕ} → d ≤ d₀ → d ≤ d₁ → d ≤ d₂ → (h : Car) (n : ℕ) → Span P (b₀ ∷ b₁ ∷ b₂ ∷ []) h → HasPole P h n → d ≤ n
-    triple-lowest {d} l₀ l₁ l₂ h n m p = ⊎-elim (λ r. omega arith) (⊎-elim (λ r. omega arith) (λ r. omega arith)) (triple-lead n (h, m, p))

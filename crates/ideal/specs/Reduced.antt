@@ -2,7 +2,6 @@
 --   Least J f          f is the monic nonzero element of J with the lowest pole number
 --   IsStar J K         K is J*: every g for which g·h is a multiple of f for each h in J, f the least element of J
 --   IsReduced J A      A is the reduced ideal of J, (J*)*
-use mathlib.Core.Path.{_≡_}
 use Prim.Native.Nat.{ℕ, _≤_}
 use Rattle.algebra.specs.Ring.{CommRing}
 use Rattle.ideal.specs.Ideal.{Colon, SameIdeal}

@@ -1,8 +1,5 @@
--- Reading numbers: their bounds, reading from a part or behind other bytes, and that reading undoes writing, both ways.
---   number2-below, number4-below, numbers-below    a number that is read fits its bytes
---   number2-drop, number4-drop, numbers-drop       reading a part that starts at place a
---   number2-take, number4-take, numbers-take       reading a part that ends behind the number
---   number2-append, number4-append, numbers-append    bytes behind the number do not matter
+-- Reading numbers: before and behind other bytes, and that reading undoes writing, both ways.
+--   number2-append     bytes behind the number do not matter
 --   number2-behind, number4-behind, numbers-behind    reading behind other bytes
 --   length-numbers, numbers-at                     how many numbers are read, and each of them
 --   number2-bytes2, number4-bytes4, numbers-all-bytes4    reading what was written
@@ -12,43 +9,13 @@ use mathlib.Core.List.{List, [], _∷_, _++_}
 use Prim.Native.Nat.{ℕ, zero, suc, _+_, _*_, _/_, _%_, _≤_, _<_}
 use native.Mathlib.Nat.{add-assoc, mod-eq-of-lt, add-mul-mod-self-left, div-div-eq-div-mul}
 use native.Mathlib.Omega.{arith}
-use lib.ListN.{length, getD, take, drop, List·getD-append}
-use lib.Seq.{getD-take, getD-drop, getD-append-add}
+use lib.ListN.{length, getD, List·getD-append}
+use lib.Seq.{getD-append-add}
 use Rattle.layout.specs.Layout.{Bytes, Words, number2, number4, numbers, bytes2, bytes4, all-bytes4}
-
-pub number2-below : (s : List ℕ) (i : ℕ) → Bytes s → number2 s i < 65536
-unfolding number2
-number2-below s i h = omega (arith, h i, h (i + 1))
-
-pub number4-below : (s : List ℕ) (i : ℕ) → Bytes s → number4 s i < 4294967296
-unfolding number4
-number4-below s i h = omega (arith, h i, h (i + 1), h (i + 2), h (i + 3))
-
-pub number2-drop : (a : ℕ) (s : List ℕ) (i : ℕ) → number2 (drop a s) i ≡ number2 s (a + i)
-unfolding number2
-number2-drop a s i = simp (getD-drop, add-assoc)
-
-pub number4-drop : (a : ℕ) (s : List ℕ) (i : ℕ) → number4 (drop a s) i ≡ number4 s (a + i)
-unfolding number4
-number4-drop a s i = simp (getD-drop, add-assoc)
-
-pub number2-take : (n : ℕ) (s : List ℕ) (i : ℕ) → i + 2 ≤ n → number2 (take n s) i ≡ number2 s i
-unfolding number2
-number2-take n s i h = cc (getD-take n s i 0 (omega arith), getD-take n s (i + 1) 0 (omega arith))
-
-pub number4-take : (n : ℕ) (s : List ℕ) (i : ℕ) → i + 4 ≤ n → number4 (take n s) i ≡ number4 s i
-unfolding number4
-number4-take n s i h =
-    cc (getD-take n s i 0 (omega arith), getD-take n s (i + 1) 0 (omega arith), getD-take n s (i + 2) 0 (omega arith), getD-take n s (i + 3) 0 (omega arith))
 
 pub number2-append : (s t : List ℕ) (i : ℕ) → i + 2 ≤ length s → number2 (s ++ t) i ≡ number2 s i
 unfolding number2
 number2-append s t i h = cc (List·getD-append s t 0 i (omega arith), List·getD-append s t 0 (i + 1) (omega arith))
-
-pub number4-append : (s t : List ℕ) (i : ℕ) → i + 4 ≤ length s → number4 (s ++ t) i ≡ number4 s i
-unfolding number4
-number4-append s t i h =
-    cc (List·getD-append s t 0 i (omega arith), List·getD-append s t 0 (i + 1) (omega arith), List·getD-append s t 0 (i + 2) (omega arith), List·getD-append s t 0 (i + 3) (omega arith))
 
 pub number2-behind : (s t : List ℕ) (i : ℕ) → number2 (s ++ t) (length s + i) ≡ number2 t i
 unfolding number2
@@ -67,15 +34,6 @@ numbers-same (suc c) s t i j h =
     (ap (number4 s) (omega arith) ∙ h 0 (omega arith) ∙ ap (number4 t) (omega arith))
     (numbers-same c s t (i + 4) (j + 4) (λ k b. ap (number4 s) (omega arith) ∙ h (k + 1) (omega arith) ∙ ap (number4 t) (omega arith)))
 
-pub numbers-drop : (a : ℕ) (s : List ℕ) (i c : ℕ) → numbers (drop a s) i c ≡ numbers s (a + i) c
-numbers-drop a s i c = numbers-same c (drop a s) s i (a + i) (λ k b. number4-drop a s (i + 4 * k) ∙ ap (number4 s) (omega arith))
-
-pub numbers-take : (n : ℕ) (s : List ℕ) (i c : ℕ) → i + 4 * c ≤ n → numbers (take n s) i c ≡ numbers s i c
-numbers-take n s i c h = numbers-same c (take n s) s i i (λ k b. number4-take n s (i + 4 * k) (omega arith))
-
-pub numbers-append : (s t : List ℕ) (i c : ℕ) → i + 4 * c ≤ length s → numbers (s ++ t) i c ≡ numbers s i c
-numbers-append s t i c h = numbers-same c (s ++ t) s i i (λ k b. number4-append s t (i + 4 * k) (omega arith))
-
 pub numbers-behind : (s t : List ℕ) (i c : ℕ) → numbers (s ++ t) (length s + i) c ≡ numbers t i c
 numbers-behind s t i c =
     numbers-same c (s ++ t) t (length s + i) i (λ k b. ap (number4 (s ++ t)) (omega arith) ∙ number4-behind s t (i + 4 * k))
@@ -90,12 +48,6 @@ unfolding numbers
 numbers-at s i zero k h = absurd (omega arith)
 numbers-at s i (suc c) zero h = ap (number4 s) (omega arith)
 numbers-at s i (suc c) (suc k) h = numbers-at s (i + 4) c k (omega arith) ∙ ap (number4 s) (omega arith)
-
-pub numbers-below : (s : List ℕ) (i c : ℕ) → Bytes s → Words (numbers s i c)
-unfolding numbers
-numbers-below s i zero h k = omega arith
-numbers-below s i (suc c) h zero = number4-below s i h
-numbers-below s i (suc c) h (suc k) = numbers-below s (i + 4) c h k
 
 pub number2-bytes2 : (n : ℕ) (rest : List ℕ) → n < 65536 → number2 (bytes2 n ++ rest) 0 ≡ n
 unfolding number2 bytes2

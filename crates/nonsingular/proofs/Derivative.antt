@@ -22,9 +22,10 @@ use Rattle.polynomial.proofs.Deriv.{coef-deriv, numeral-number}
 use Rattle.polynomial.proofs.Cubic.{deriv-cubic, by-x-cubic}
 use Rattle.ideal.specs.Poles.{IsGap}
 use Rattle.curve.specs.Curve.{Curve, ascending, t0, t1, t2, Coordinate, at}
-use Rattle.curve.specs.Pole.{pole, Located, place, gap, locate}
-use Rattle.curve.specs.Monomial.{coefficient}
-use Rattle.curve.specs.Term.{coefficient-pole, coefficient-gap}
+use Rattle.curve.specs.Pole.{pole}
+use Rattle.curve.proofs.Pole.{Located, place, gap, locate}
+use Rattle.curve.specs.Sequence.{coefficient}
+use Rattle.curve.proofs.Term.{coefficient-pole, coefficient-gap}
 use Rattle.nonsingular.specs.Equation.{Fx, Fy}
 use Rattle.nonsingular.specs.Normal.{of-parts, normal}
 use Rattle.nonsingular.specs.Derivative.{twice, thrice, four-times, derivative-x, derivative-y, vector-x, vector-y}
@@ -86,11 +87,15 @@ module _ {k : CommRing} (C : Curve k) where
 
   pub normal-Fx : normal C .map (Fx C) ≡ derivative-x C
   unfolding derivative-x
-  normal-Fx = ap (λ f. normal C .map (by-x k f)) (F-cubic C) ∙ ap (normal C .map) (by-x-cubic k (t0 C) (t1 C) (t2 C)) ∙ normal-quadratic C _ _ _ ∙ (λ i. of-parts C (deriv-t0 i) (deriv-t1 i) (deriv-t2 i))
+  normal-Fx =
+      ap (λ f. normal C .map (by-x k f)) (F-cubic C) ∙ ap (normal C .map) (by-x-cubic k (t0 C) (t1 C) (t2 C)) ∙ normal-quadratic C _ _ _
+      ∙ (λ i. of-parts C (deriv-t0 i) (deriv-t1 i) (deriv-t2 i))
 
   twice-t2 : Poly k .mul (numeral (Poly k) 2) (t2 C) ≡ ascending k (twice k (C .c5) ∷ twice k (C .c8) ∷ [])
   unfolding t2
-  twice-t2 = poly-path k (λ i. ap (λ f. coef k f i) (times-2 (Poly k) (t2 C)) ∙ coef-add k (t2 C) (t2 C) i ∙ ap (twice k) (coef-ascending k (C .c5 ∷ C .c8 ∷ []) i) ∙ go i ∙ sym (coef-ascending k (twice k (C .c5) ∷ twice k (C .c8) ∷ []) i))
+  twice-t2 =
+      poly-path k (λ i. ap (λ f. coef k f i) (times-2 (Poly k) (t2 C)) ∙ coef-add k (t2 C) (t2 C) i
+      ∙ ap (twice k) (coef-ascending k (C .c5 ∷ C .c8 ∷ []) i) ∙ go i ∙ sym (coef-ascending k (twice k (C .c5) ∷ twice k (C .c8) ∷ []) i))
     where
       go : (i : ℕ) → twice k (getD (C .c5 ∷ C .c8 ∷ []) i 𝟘) ≡ getD (twice k (C .c5) ∷ twice k (C .c8) ∷ []) i 𝟘
       go zero = refl
@@ -98,7 +103,9 @@ module _ {k : CommRing} (C : Curve k) where
       go (suc (suc i)) = k .add-zero 𝟘
 
   three : numeral (Poly k) 3 ≡ ascending k (thrice k 𝟙 ∷ [])
-  three = poly-path k (λ i. ap (λ f. coef k f i) (sym (Poly k .mul-one _) ∙ times-3 (Poly k) (Poly k .one)) ∙ coef-add k _ _ i ∙ ap (λ c. k .add c (coef k (Poly k .one) i)) (coef-add k _ _ i) ∙ go i ∙ sym (coef-ascending k (thrice k 𝟙 ∷ []) i))
+  three =
+      poly-path k (λ i. ap (λ f. coef k f i) (sym (Poly k .mul-one _) ∙ times-3 (Poly k) (Poly k .one)) ∙ coef-add k _ _ i
+      ∙ ap (λ c. k .add c (coef k (Poly k .one) i)) (coef-add k _ _ i) ∙ go i ∙ sym (coef-ascending k (thrice k 𝟙 ∷ []) i))
     where
       go : (i : ℕ) → thrice k (coef k (Poly k .one) i) ≡ getD (thrice k 𝟙 ∷ []) i 𝟘
       go zero = ap (thrice k) (coef-one-head k)
@@ -110,7 +117,9 @@ module _ {k : CommRing} (C : Curve k) where
 
   pub normal-Fy : normal C .map (Fy C) ≡ derivative-y C
   unfolding derivative-y
-  normal-Fy = ap (λ f. normal C .map (by-y k f)) (F-cubic C) ∙ ap (normal C .map) (deriv-cubic (Poly k) (t0 C) (t1 C) (t2 C)) ∙ normal-quadratic C _ _ _ ∙ (λ i. of-parts C (t1-listed i) (twice-t2 i) (three i))
+  normal-Fy =
+      ap (λ f. normal C .map (by-y k f)) (F-cubic C) ∙ ap (normal C .map) (deriv-cubic (Poly k) (t0 C) (t1 C) (t2 C)) ∙ normal-quadratic C _ _ _
+      ∙ (λ i. of-parts C (t1-listed i) (twice-t2 i) (three i))
 
   -- the coefficients of an element whose parts are listed
   module _ (us vs ws : List Car) where

@@ -2,4 +2,3 @@
 pub mod Quotient
 pub mod Derivative
 pub mod Nonsingular
-pub mod Examples

@@ -2,7 +2,6 @@
 --   F-cubic            F is the monic cubic y³ + t2·y² + t1·y + t0 over k[x]
 --   normal-onto        each element of the coordinate ring is the normal form of a polynomial in x and y
 --   normal-kernel      a polynomial has the normal form 0 exactly if it is a multiple of F
---   normal-F           F has the normal form 0
 --   part-0 part-1 part-2           the parts of the element a + b·y + c·y²
 --   normal-quadratic   the normal form of the polynomial a + b·y + c·y² is the element of-parts C a b c
 use mathlib.Core.Path.{_≡_, sym, _∙_, ap, subst}
@@ -10,16 +9,15 @@ use mathlib.Core.Logic.{_↔_}
 use mathlib.Core.List.{List, [], _∷_}
 use Prim.Native.Nat.{ℕ}
 use Rattle.algebra.specs.Ring.{CommRing}
-use Rattle.algebra.proofs.Laws.{one-mul}
 use Rattle.algebra.proofs.Norm.{nil, unit}
 use Rattle.algebra.proofs.Solve.{_⊞_, _⊠_, ⊟_, solve, given, solve-from}
 use Rattle.polynomial.specs.Poly.{Poly, const}
 use Rattle.polynomial.specs.Plane as P
 use Rattle.polynomial.specs.Plane.{Plane, scalar}
-use Rattle.polynomial.specs.Cubic.{cubic, quadratic}
+use Rattle.polynomial.proofs.Cubic.{cubic, quadratic}
 use Rattle.polynomial.proofs.Coef.{const-zero, const-add, const-mul}
 use Rattle.polynomial.proofs.Kernel as K
-use Rattle.curve.specs.Component as M
+use Rattle.curve.proofs.Component as M
 use Rattle.curve.specs.Curve.{Curve, ascending, t0, t1, t2, Coordinate, in-x, y, part}
 use Rattle.nonsingular.specs.Equation.{F}
 use Rattle.nonsingular.specs.Normal.{of-parts, over-x, normal}
@@ -60,7 +58,8 @@ module _ {k : CommRing} (C : Curve k) where
       y ⊠ y ⊠ y ⊞ a0 ⊠ (x ⊠ x ⊠ x ⊠ x) ⊞ c8 ⊠ (x ⊠ y ⊠ y) ⊞ c7 ⊠ (x ⊠ x ⊠ y) ⊞ c6 ⊠ (x ⊠ x ⊠ x) ⊞ c5 ⊠ (y ⊠ y) ⊞ c4 ⊠ (x ⊠ y) ⊞ c3 ⊠ (x ⊠ x) ⊞ c2 ⊠ y ⊞ c1 ⊠ x ⊞ c0)
       (λ x y a0 c0 c1 c2 c3 c4 c5 c6 c7 c8.
       y ⊠ y ⊠ y ⊞ (c5 ⊞ x ⊠ (c8 ⊞ x ⊠ nil)) ⊠ (y ⊠ y) ⊞ (c2 ⊞ x ⊠ (c4 ⊞ x ⊠ (c7 ⊞ x ⊠ nil))) ⊠ y ⊞ (c0 ⊞ x ⊠ (c1 ⊞ x ⊠ (c3 ⊞ x ⊠ (c6 ⊞ x ⊠ (a0 ⊞ x ⊠ nil))))))
-      tt (P.x k) (P.y k) (scalar k (C .a0)) (scalar k (C .c0)) (scalar k (C .c1)) (scalar k (C .c2)) (scalar k (C .c3)) (scalar k (C .c4)) (scalar k (C .c5)) (scalar k (C .c6)) (scalar k (C .c7)) (scalar k (C .c8))
+      tt (P.x k) (P.y k) (scalar k (C .a0)) (scalar k (C .c0)) (scalar k (C .c1)) (scalar k (C .c2)) (scalar k (C .c3)) (scalar k (C .c4))
+      (scalar k (C .c5)) (scalar k (C .c6)) (scalar k (C .c7)) (scalar k (C .c8))
       ∙ sym (λ i. P.y k ·ₚ P.y k ·ₚ P.y k +ₚ const-t2 i ·ₚ (P.y k ·ₚ P.y k) +ₚ const-t1 i ·ₚ P.y k +ₚ const-t0 i)
 
   y-cubed : y C ⊗ (y C ⊗ y C) ≡ ⊖ (in-x C (t2 C) ⊗ (y C ⊗ y C) ⊕ in-x C (t1 C) ⊗ y C ⊕ in-x C (t0 C))
@@ -73,7 +72,7 @@ module _ {k : CommRing} (C : Curve k) where
       solve-from (Coordinate C) 4 (λ y a b c. given unit (y ⊠ (y ⊠ y)) (⊟ (c ⊠ (y ⊠ y) ⊞ b ⊠ y ⊞ a)) ∷ []) (λ y a b c. y ⊠ y ⊠ y ⊞ c ⊠ (y ⊠ y) ⊞ b ⊠ y ⊞ a) (λ y a b c. nil) tt
       (y C) (in-x C (t0 C)) (in-x C (t1 C)) (in-x C (t2 C)) (y-cubed, tt)
 
-  pub at-spread : (g : El) → K.at-quadratic (over-x C) (y C) (part C 0 g) (part C 1 g) (part C 2 g) ≡ g
+  at-spread : (g : El) → K.at-quadratic (over-x C) (y C) (part C 0 g) (part C 1 g) (part C 2 g) ≡ g
   unfolding Coordinate in-x y part
   at-spread g = sym (M.spread (Poly k) (t0 C) (t1 C) (t2 C) g)
 
@@ -116,6 +115,3 @@ module _ {k : CommRing} (C : Curve k) where
     where
       cubics : (normal C .map f ≡ 𝟘) ↔ ((q : Pol) × (f ≡ q ·ₚ cubic (Poly k) (t0 C) (t1 C) (t2 C)))
       cubics = K.kernel (over-x C) (y C) (t0 C) (t1 C) (t2 C) root independent f
-
-  pub normal-F : normal C .map (F C) ≡ 𝟘
-  normal-F = normal-kernel (F C) .1 (𝟏, sym (one-mul (Plane k) (F C)))

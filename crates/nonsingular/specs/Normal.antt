@@ -3,40 +3,23 @@
 --   of-parts a b c     the element a + b·y + c·y², for polynomials a, b and c in x
 --   over-x C           k[x] as a subring of the coordinate ring
 --   normal C           the ring map that takes a polynomial in x and y to its normal form: its value at y, over k[x]
-use mathlib.Core.Path.{_≡_}
 use Rattle.algebra.specs.Ring.{CommRing}
 use Rattle.polynomial.specs.Poly.{Poly}
 use Rattle.polynomial.specs.Plane.{Plane}
-use Rattle.polynomial.specs.RingMap.{RingMap}
+use Rattle.algebra.specs.RingMap.{RingMap}
 use Rattle.polynomial.specs.Eval.{eval}
 use Rattle.polynomial.proofs.Eval.{eval-zero, eval-one, eval-add, eval-mul}
 use Rattle.curve.specs.Curve.{Curve, t0, t1, t2, Coordinate, in-x, y}
 use Rattle.curve.specs.Cubic.{triple}
-use Rattle.curve.specs.Component.{embed-zero, embed-one, embed-add, embed-mul}
+use Rattle.curve.proofs.Coefficient.{in-x-zero, in-x-one, in-x-add, in-x-mul}
 
 module _ {k : CommRing} (C : Curve k) where
   unfoldable pub of-parts : Poly k .Car → Poly k .Car → Poly k .Car → Coordinate C .Car
   unfolding Coordinate
   of-parts a b c = triple (Poly k) (t0 C) (t1 C) (t2 C) a b c
 
-  pub in-x-zero : in-x C (Poly k .zero) ≡ Coordinate C .zero
-  unfolding Coordinate in-x
-  in-x-zero = embed-zero (Poly k) (t0 C) (t1 C) (t2 C)
-
-  pub in-x-one : in-x C (Poly k .one) ≡ Coordinate C .one
-  unfolding Coordinate in-x
-  in-x-one = embed-one (Poly k) (t0 C) (t1 C) (t2 C)
-
-  pub in-x-add : (f g : Poly k .Car) → in-x C (Poly k .add f g) ≡ Coordinate C .add (in-x C f) (in-x C g)
-  unfolding Coordinate in-x
-  in-x-add f g = embed-add (Poly k) (t0 C) (t1 C) (t2 C) f g
-
-  pub in-x-mul : (f g : Poly k .Car) → in-x C (Poly k .mul f g) ≡ Coordinate C .mul (in-x C f) (in-x C g)
-  unfolding Coordinate in-x
-  in-x-mul f g = embed-mul (Poly k) (t0 C) (t1 C) (t2 C) f g
-
   abbrev pub over-x : RingMap (Poly k) (Coordinate C)
-  over-x = record { map = in-x C; map-zero = in-x-zero; map-one = in-x-one; map-add = in-x-add; map-mul = in-x-mul }
+  over-x = record { map = in-x C; map-zero = in-x-zero C; map-one = in-x-one C; map-add = in-x-add C; map-mul = in-x-mul C }
 
   abbrev pub normal : RingMap (Plane k) (Coordinate C)
   normal =

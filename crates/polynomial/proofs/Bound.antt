@@ -1,10 +1,8 @@
--- Over a ring with decidable equality a polynomial has a least bound, and equality of polynomials is decidable.
+-- Over a ring with decidable equality a polynomial has a least bound.
 --   LeastBound f       a bound of f's coefficients and that no other is less; there is only one
 --   least D f          the least bound of f
 --   bound D f          a bound of f
---   is-zero D f        whether f is zero
---   poly-discrete D    equality of polynomials is decidable
-use mathlib.Core.Path.{_≡_, _∙_, ap, subst}
+use mathlib.Core.Path.{_≡_, subst}
 use mathlib.Core.Logic.{∥∥₁-elim, _⊎_, inl, inr}
 use mathlib.Core.HLevel.{Σ-prop-path, Π-prop, ×-prop}
 use Prim.Native.Nat.{ℕ, zero, suc, _≤_, _<_}
@@ -13,11 +11,8 @@ use native.Mathlib.Decide.{decLe}
 use native.Mathlib.Nat.{eq-or-lt-of-le}
 use native.Mathlib.Omega.{arith}
 use Rattle.algebra.specs.Ring.{CommRing}
-use Rattle.algebra.proofs.Laws.{sub-zero→eq, eq→sub-zero}
-use Rattle.polynomial.specs.Bounds.{Bound}
+use Rattle.series.specs.Series.{Bound}
 use Rattle.polynomial.specs.Poly.{Poly, coef, finite}
-use Rattle.polynomial.proofs.Coef.{coef-zero}
-use Rattle.polynomial.proofs.Induct.{none}
 
 module _ (A : CommRing) where
   open CommRing (Poly A) using (Car as Pol, zero as 𝟎, add as _+ₚ_, neg as -ₚ_)
@@ -54,18 +49,3 @@ module _ (A : CommRing) where
 
     pub bound : (f : Pol) → (n : ℕ) × Bound A (coef A f) n
     bound f = (least f .0, least f .1 .0)
-
-    -- f is zero exactly if its least bound is 0.
-    pub is-zero : (f : Pol) → Dec (f ≡ 𝟎)
-    is-zero f = go (least f)
-      where
-        go : LeastBound f → Dec (f ≡ 𝟎)
-        go (zero, (h, l)) = yes (none A f h)
-        go (suc n, (h, l)) = no (λ e. absurd (let b : suc n ≤ 0 = l 0 (λ i k. ap (λ g. coef A g i) e ∙ coef-zero A i) in omega arith))
-
-    pub poly-discrete : Discrete Pol
-    poly-discrete f g = go (is-zero (f +ₚ -ₚ g))
-      where
-        go : Dec (f +ₚ -ₚ g ≡ 𝟎) → Dec (f ≡ g)
-        go (yes e) = yes (sub-zero→eq (Poly A) f g e)
-        go (no u) = no (λ e. u (eq→sub-zero (Poly A) f g e))

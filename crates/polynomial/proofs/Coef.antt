@@ -1,23 +1,20 @@
 -- The coefficients of sums, products, constants and multiples of the variable.
 --   coef-zero coef-add coef-neg coef-one-head coef-one-next      of the ring's operations
---   coef-mul            the product's coefficients are those of the product of series
---   coef-mul-head coef-mul-next                                  the product's recursion
+--   rest A f            f without its constant coefficient, divided by the variable
 --   coef-poly coef-rest coef-const-head coef-const-next          of polynomials given by coefficients
 --   coef-const-mul      of a constant times f
 --   coef-X-head coef-X-next                                      of the variable times f
 --   coef-split-head coef-split-next                              of k + X·f
 --   const-zero const-one const-add const-mul const-neg           constants are a subring
---   const-inj X-inj     constants with the same polynomial are equal; the variable can be cancelled
 --   split               f = f₀ + X·(rest f)
---   rest-split          the rest of k + X·f is f
-use mathlib.Core.Path.{_≡_, refl, sym, _∙_, ap, ap₂}
+use mathlib.Core.Path.{_≡_, refl, sym, _∙_, ap₂}
 use Prim.Native.Nat.{ℕ, zero, suc}
 use Rattle.algebra.specs.Ring.{CommRing}
 use Rattle.algebra.proofs.Laws.{mul-zero, zero-mul, neg-zero, zero-add}
-use Rattle.polynomial.specs.Series.{Series, product, constant, shift, product-head, product-next}
-use Rattle.polynomial.specs.SeriesLaws.{constant-product}
-use Rattle.polynomial.specs.Bounds.{Finite}
-use Rattle.polynomial.specs.Poly.{Poly, coef, poly, poly-path, const, X, rest}
+use Rattle.series.specs.Series.{tail, Series, constant, shift, Finite}
+use Rattle.series.proofs.Bounds.{finite-tail}
+use Rattle.series.proofs.Product.{product-head, product-next, constant-product}
+use Rattle.polynomial.specs.Poly.{Poly, coef, poly, poly-path, const, X, finite}
 
 module _ (A : CommRing) where
   open CommRing A using (Car, zero as 𝟘, one as 𝟙, add as _⊕_, mul as _⊗_, neg as ⊖_, add-zero, mul-one, mul-comm)
@@ -38,15 +35,14 @@ module _ (A : CommRing) where
   unfolding Poly coef
   coef-neg f i = refl
 
-  pub coef-mul : (f g : Pol) (i : ℕ) → coef A (f ·ₚ g) i ≡ product A (coef A f) (coef A g) i
-  unfolding Poly coef
-  coef-mul f g i = refl
-
   pub coef-poly : (a : Series A) (h : Finite A a) (i : ℕ) → coef A (poly A a h) i ≡ a i
   unfolding Poly coef poly
   coef-poly a h i = refl
 
-  pub coef-rest : (f : Pol) (i : ℕ) → coef A (rest A f) i ≡ coef A f (suc i)
+  unfoldable pub rest : Pol → Pol
+  rest f = poly A (tail A (coef A f)) (finite-tail A (coef A f) (finite A f))
+
+  pub coef-rest : (f : Pol) (i : ℕ) → coef A (rest f) i ≡ coef A f (suc i)
   unfolding Poly coef poly rest
   coef-rest f i = refl
 
@@ -66,13 +62,6 @@ module _ (A : CommRing) where
   unfolding Poly coef constant
   coef-one-next i = refl
 
-  pub coef-mul-head : (f g : Pol) → coef A (f ·ₚ g) zero ≡ coef A f zero ⊗ coef A g zero
-  coef-mul-head f g = coef-mul f g zero ∙ product-head A _ _
-
-  pub coef-mul-next : (f g : Pol) (i : ℕ) → coef A (f ·ₚ g) (suc i) ≡ coef A f zero ⊗ coef A g (suc i) ⊕ coef A (rest A f ·ₚ g) i
-  unfolding Poly coef poly rest product
-  coef-mul-next f g i = refl
-
   pub coef-const-mul : (k : Car) (f : Pol) (i : ℕ) → coef A (const A k ·ₚ f) i ≡ k ⊗ coef A f i
   unfolding Poly coef poly const
   coef-const-mul k f i = constant-product A k (coef A f) i
@@ -90,9 +79,6 @@ module _ (A : CommRing) where
 
   pub coef-split-next : (k : Car) (f : Pol) (i : ℕ) → coef A (const A k +ₚ X A ·ₚ f) (suc i) ≡ coef A f i
   coef-split-next k f i = coef-add _ _ (suc i) ∙ ap₂ _⊕_ (coef-const-next k i) (coef-X-next f i) ∙ zero-add A _
-
-  pub const-inj : (a b : Car) → const A a ≡ const A b → a ≡ b
-  const-inj a b e = sym (coef-const-head a) ∙ ap (λ f. coef A f zero) e ∙ coef-const-head b
 
   pub const-zero : const A 𝟘 ≡ 𝟎
   const-zero = poly-path A go
@@ -126,15 +112,9 @@ module _ (A : CommRing) where
       go zero = simp (coef-const-mul, coef-const-head)
       go (suc i) = simp (coef-const-mul, coef-const-next, mul-zero A)
 
-  pub X-inj : (f g : Pol) → X A ·ₚ f ≡ X A ·ₚ g → f ≡ g
-  X-inj f g e = poly-path A (λ i. sym (coef-X-next f i) ∙ ap (λ h. coef A h (suc i)) e ∙ coef-X-next g i)
-
-  pub split : (f : Pol) → f ≡ const A (coef A f zero) +ₚ X A ·ₚ rest A f
+  pub split : (f : Pol) → f ≡ const A (coef A f zero) +ₚ X A ·ₚ rest f
   split f = poly-path A go
     where
-      go : (i : ℕ) → coef A f i ≡ coef A (const A (coef A f zero) +ₚ X A ·ₚ rest A f) i
+      go : (i : ℕ) → coef A f i ≡ coef A (const A (coef A f zero) +ₚ X A ·ₚ rest f) i
       go zero = simp (coef-add, coef-const-head, coef-X-head, add-zero)
       go (suc i) = simp (coef-add, coef-const-next, coef-X-next, coef-rest, zero-add A)
-
-  pub rest-split : (k : Car) (f : Pol) → rest A (const A k +ₚ X A ·ₚ f) ≡ f
-  rest-split k f = poly-path A (λ i. coef-rest _ i ∙ coef-split-next k f i)

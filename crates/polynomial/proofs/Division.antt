@@ -1,4 +1,6 @@
 -- Division by a monic cubic in A[Y]: quotient and rest exist and there is only one of each.
+--   Parts A                  a quotient and the three coefficients of a rest
+--   Divided A t0 t1 t2 f     parts with f = quotient·(the cubic) + rest
 --   rest-zero                if q·F + (a0 + a1·Y + a2·Y²) is zero, then q, a0, a1 and a2 are
 --   divide-unique            quotient and rest are determined
 --   divided-prop             Divided is a proposition
@@ -13,12 +15,25 @@ use Rattle.algebra.specs.Ring.{CommRing}
 use Rattle.algebra.proofs.Laws.{zero-add, zero-mul, sub-zero→eq, eq→sub-zero}
 use Rattle.algebra.proofs.Norm.{nil}
 use Rattle.algebra.proofs.Solve.{_⊞_, _⊠_, ⊟_, solve}
-use Rattle.polynomial.specs.Bounds.{Bound}
+use Rattle.series.specs.Series.{Bound}
 use Rattle.polynomial.specs.Poly.{Poly, coef, const, X, finite}
-use Rattle.polynomial.specs.Cubic.{cubic, quadratic, Divided}
+use Rattle.polynomial.proofs.Cubic.{cubic, quadratic, coef-quadratic-0, coef-quadratic-1, coef-quadratic-2, coef-quadratic-from, quadratic-zero, quadratic-sub, const-less, coef-cubic-mul}
 use Rattle.polynomial.proofs.Coef.{coef-zero, coef-add}
-use Rattle.polynomial.proofs.Cubic.{coef-quadratic-0, coef-quadratic-1, coef-quadratic-2, coef-quadratic-from, quadratic-zero, quadratic-sub, const-less, coef-cubic-mul}
 use Rattle.polynomial.proofs.Induct.{induct, none}
+
+module _ (A : CommRing) where
+  open CommRing (Poly A) using (Car as Pol, add as _+ₚ_, mul as _·ₚ_)
+
+  infixl 60 _+ₚ_
+  infixl 70 _·ₚ_
+  pub record Parts : Type 0 where
+    pub quotient : Pol
+    pub c0 : A .Car
+    pub c1 : A .Car
+    pub c2 : A .Car
+
+  abbrev pub Divided : A .Car → A .Car → A .Car → Pol → Type 0
+  Divided t0 t1 t2 f = (d : Parts) × (f ≡ d .quotient ·ₚ cubic A t0 t1 t2 +ₚ quadratic A (d .c0) (d .c1) (d .c2))
 
 module _ (A : CommRing) where
   open CommRing A using (Car, zero as 𝟘, add as _⊕_, mul as _⊗_, neg as ⊖_, add-zero)
@@ -51,7 +66,10 @@ module _ (A : CommRing) where
     rest-zero q a0 a1 a2 e = (q-zero, sym (coef-quadratic-0 A a0 a1 a2) ∙ at 0, sym (coef-quadratic-1 A a0 a1 a2) ∙ at 1, sym (coef-quadratic-2 A a0 a1 a2) ∙ at 2)
       where
         q-zero : q ≡ 𝟎
-        q-zero = quotient-zero q (λ i. sym (add-zero _) ∙ ap (λ t. coef A (q ·ₚ cubic A t0 t1 t2) (suc (suc (suc i))) ⊕ t) (sym (coef-quadratic-from A a0 a1 a2 i)) ∙ sym (coef-add A _ _ _) ∙ ap (λ f. coef A f (suc (suc (suc i)))) e ∙ coef-zero A _)
+        q-zero =
+            quotient-zero q (λ i. sym (add-zero _)
+            ∙ ap (λ t. coef A (q ·ₚ cubic A t0 t1 t2) (suc (suc (suc i))) ⊕ t) (sym (coef-quadratic-from A a0 a1 a2 i)) ∙ sym (coef-add A _ _ _)
+            ∙ ap (λ f. coef A f (suc (suc (suc i)))) e ∙ coef-zero A _)
 
         rest : quadratic A a0 a1 a2 ≡ 𝟎
         rest = sym (zero-add (Poly A) _) ∙ ap (λ z. z +ₚ quadratic A a0 a1 a2) (sym (zero-mul (Poly A) (cubic A t0 t1 t2)) ∙ ap (λ z. z ·ₚ cubic A t0 t1 t2) (sym q-zero)) ∙ e
@@ -60,10 +78,12 @@ module _ (A : CommRing) where
         at i = ap (λ f. coef A f i) rest ∙ coef-zero A i
 
     -- Two divisions of one polynomial differ by a division of zero.
-    pub divide-unique : (q r : Pol) (a0 a1 a2 b0 b1 b2 : Car) → q ·ₚ cubic A t0 t1 t2 +ₚ quadratic A a0 a1 a2 ≡ r ·ₚ cubic A t0 t1 t2 +ₚ quadratic A b0 b1 b2 → (q ≡ r) × (a0 ≡ b0) × (a1 ≡ b1) × (a2 ≡ b2)
+    pub divide-unique : (q r : Pol) (a0 a1 a2 b0 b1 b2 : Car) → q ·ₚ cubic A t0 t1 t2 +ₚ quadratic A a0 a1 a2
+        ≡ r ·ₚ cubic A t0 t1 t2 +ₚ quadratic A b0 b1 b2 → (q ≡ r) × (a0 ≡ b0) × (a1 ≡ b1) × (a2 ≡ b2)
     divide-unique q r a0 a1 a2 b0 b1 b2 e = (sub-zero→eq (Poly A) q r (z .0), sub-zero→eq A a0 b0 (z .1), sub-zero→eq A a1 b1 (z .2), sub-zero→eq A a2 b2 (z .3))
       where
-        difference : (q +ₚ -ₚ r) ·ₚ cubic A t0 t1 t2 +ₚ quadratic A (a0 ⊕ ⊖ b0) (a1 ⊕ ⊖ b1) (a2 ⊕ ⊖ b2) ≡ (q ·ₚ cubic A t0 t1 t2 +ₚ quadratic A a0 a1 a2) +ₚ -ₚ (r ·ₚ cubic A t0 t1 t2 +ₚ quadratic A b0 b1 b2)
+        difference : (q +ₚ -ₚ r) ·ₚ cubic A t0 t1 t2 +ₚ quadratic A (a0 ⊕ ⊖ b0) (a1 ⊕ ⊖ b1) (a2 ⊕ ⊖ b2)
+            ≡ (q ·ₚ cubic A t0 t1 t2 +ₚ quadratic A a0 a1 a2) +ₚ -ₚ (r ·ₚ cubic A t0 t1 t2 +ₚ quadratic A b0 b1 b2)
         difference =
             ap (λ u. (q +ₚ -ₚ r) ·ₚ cubic A t0 t1 t2 +ₚ u) (quadratic-sub A a0 a1 a2 b0 b1 b2)
             ∙ solve (Poly A) 5 (λ q r f u v. (q ⊞ ⊟ r) ⊠ f ⊞ (u ⊞ ⊟ v)) (λ q r f u v. (q ⊠ f ⊞ u) ⊞ ⊟ (r ⊠ f ⊞ v)) tt q r (cubic A t0 t1 t2) (quadratic A a0 a1 a2) (quadratic A b0 b1 b2)
@@ -85,7 +105,8 @@ module _ (A : CommRing) where
           ∙ solve (Poly A) 9 (λ k y q a b c t0 t1 t2. k ⊞ y ⊠ (q ⊠ (y ⊠ y ⊠ y ⊞ t2 ⊠ (y ⊠ y) ⊞ t1 ⊠ y ⊞ t0) ⊞ (a ⊞ b ⊠ y ⊞ c ⊠ (y ⊠ y))))
           (λ k y q a b c t0 t1 t2. (y ⊠ q ⊞ c) ⊠ (y ⊠ y ⊠ y ⊞ t2 ⊠ (y ⊠ y) ⊞ t1 ⊠ y ⊞ t0) ⊞ ((k ⊞ ⊟ (c ⊠ t0)) ⊞ (a ⊞ ⊟ (c ⊠ t1)) ⊠ y ⊞ (b ⊞ ⊟ (c ⊠ t2)) ⊠ (y ⊠ y))) tt
           (const A k) (X A) (d .quotient) (const A (d .c0)) (const A (d .c1)) (const A (d .c2)) (const A t0) (const A t1) (const A t2)
-          ∙ (λ i. (X A ·ₚ d .quotient +ₚ const A (d .c2)) ·ₚ cubic A t0 t1 t2 +ₚ (const-less A k (d .c2) t0 i +ₚ const-less A (d .c0) (d .c2) t1 i ·ₚ X A +ₚ const-less A (d .c1) (d .c2) t2 i ·ₚ (X A ·ₚ X A))),
+          ∙ (λ i. (X A ·ₚ d .quotient +ₚ const A (d .c2)) ·ₚ cubic A t0 t1 t2 +ₚ
+          (const-less A k (d .c2) t0 i +ₚ const-less A (d .c0) (d .c2) t1 i ·ₚ X A +ₚ const-less A (d .c1) (d .c2) t2 i ·ₚ (X A ·ₚ X A))),
     )
 
     pub divide : (f : Pol) → Divided A t0 t1 t2 f

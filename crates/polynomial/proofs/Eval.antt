@@ -1,10 +1,8 @@
--- Evaluation is a ring map, and the only one that is φ on constants and b at the variable.
+-- Evaluation is a ring map that is φ on constants and b at the variable.
 --   map-neg            a ring map keeps negatives
+--   eval-bound         eval φ b f is the sum up to any bound of f
 --   eval-split         the value of k + X·f is φ k + b·(the value of f)
 --   eval-zero eval-const eval-X eval-X-mul eval-one eval-add eval-mul
---   constants A        const as a ring map
---   evaluation φ b     eval φ b as a ring map
---   eval-unique        a ring map that is φ on constants and b at X is eval φ b
 use mathlib.Core.Path.{_≡_, refl, sym, _∙_, ap, ap₂, fun-ext}
 use mathlib.Core.Logic.{∥∥₁-elim}
 use Prim.Native.Nat.{ℕ, zero, suc, _+_}
@@ -13,19 +11,18 @@ use Rattle.algebra.specs.Ring.{CommRing}
 use Rattle.algebra.proofs.Laws.{mul-zero, zero-add, zero-mul, neg-unique}
 use Rattle.algebra.proofs.Norm.{nil}
 use Rattle.algebra.proofs.Solve.{_⊞_, _⊠_, solve}
-use Rattle.polynomial.specs.Series.{Series, tail}
-use Rattle.polynomial.specs.Bounds.{Bound, bound-add, bound-more}
+use Rattle.series.specs.Series.{Series, tail, Bound}
+use Rattle.series.proofs.Bounds.{bound-add, bound-more}
 use Rattle.polynomial.specs.Poly.{Poly, coef, const, X, finite}
-use Rattle.polynomial.specs.RingMap.{RingMap}
-use Rattle.polynomial.specs.Eval.{horner, eval, eval-bound}
-use Rattle.polynomial.proofs.Coef.{coef-zero, coef-add, coef-split-head, coef-split-next, const-zero, const-one, const-add, const-mul}
+use Rattle.algebra.specs.RingMap.{RingMap}
+use Rattle.polynomial.specs.Eval.{value, eval}
+use Rattle.series.specs.Value.{horner}
+use Rattle.series.proofs.Value.{horner-same}
+use Rattle.polynomial.proofs.Coef.{coef-zero, coef-add, coef-split-head, coef-split-next, const-zero, const-one, const-mul}
 use Rattle.polynomial.proofs.Induct.{induct}
 
 pub map-neg : {A B : CommRing} (φ : RingMap A B) (a : A .Car) → φ .map (A .neg a) ≡ B .neg (φ .map a)
 map-neg {A} {B} φ a = neg-unique B (φ .map a) (φ .map (A .neg a)) (sym (φ .map-add a (A .neg a)) ∙ ap (φ .map) (A .add-neg a) ∙ φ .map-zero)
-
-pub constants : (A : CommRing) → RingMap A (Poly A)
-constants A = record { map = const A; map-zero = const-zero A; map-one = const-one A; map-add = const-add A; map-mul = const-mul A }
 
 module _ {A B : CommRing} (φ : RingMap A B) (b : B .Car) where
   open CommRing B using (add as _⊕_, mul as _⊗_, zero as 𝟘, one as 𝟙)
@@ -33,6 +30,10 @@ module _ {A B : CommRing} (φ : RingMap A B) (b : B .Car) where
 
   infixl 60 _⊕_ _+ₚ_
   infixl 70 _⊗_ _·ₚ_
+  pub eval-bound : (f : Pol) (n : ℕ) → Bound A (coef A f) n → eval φ b f ≡ horner φ b (coef A f) n
+  unfolding eval
+  eval-bound f n h = ∥∥₁-elim (value φ b f .1) (B .isSet _ _) (λ x. x .1 .1 ∙ horner-same φ b (x .0) n (coef A f) (x .1 .0) h)
+
   horner-add : (n : ℕ) (a c : Series A) → horner φ b (λ i. A .add (a i) (c i)) n ≡ horner φ b a n ⊕ horner φ b c n
   unfolding horner
   horner-add zero a c = sym (B .add-zero 𝟘)
@@ -41,13 +42,16 @@ module _ {A B : CommRing} (φ : RingMap A B) (b : B .Car) where
       ∙ solve B 5 (λ x y b u v. (x ⊞ y) ⊞ b ⊠ (u ⊞ v)) (λ x y b u v. (x ⊞ b ⊠ u) ⊞ (y ⊞ b ⊠ v)) tt (φ .map (a zero)) (φ .map (c zero)) b (horner φ b (tail A a) n) (horner φ b (tail A c) n)
 
   pub eval-add : (f g : Pol) → eval φ b (f +ₚ g) ≡ eval φ b f ⊕ eval φ b g
-  eval-add f g = ∥∥₁-elim (finite A f) (B .isSet _ _) (λ x. ∥∥₁-elim (finite A g) (B .isSet _ _) (λ y. go (x .0 + y .0) (bound-more A (x .0) (x .0 + y .0) (omega arith) (x .1)) (bound-more A (y .0) (x .0 + y .0) (omega arith) (y .1))))
+  eval-add f g =
+      ∥∥₁-elim (finite A f) (B .isSet _ _)
+      (λ x. ∥∥₁-elim (finite A g) (B .isSet _ _)
+      (λ y. go (x .0 + y .0) (bound-more A (x .0) (x .0 + y .0) (omega arith) (x .1)) (bound-more A (y .0) (x .0 + y .0) (omega arith) (y .1))))
     where
       go : (n : ℕ) → Bound A (coef A f) n → Bound A (coef A g) n → eval φ b (f +ₚ g) ≡ eval φ b f ⊕ eval φ b g
       go n p q =
-          eval-bound φ b (f +ₚ g) n (λ i h. coef-add A f g i ∙ bound-add A (coef A f) (coef A g) n p q i h)
+          eval-bound (f +ₚ g) n (λ i h. coef-add A f g i ∙ bound-add A (coef A f) (coef A g) n p q i h)
           ∙ ap (λ a. horner φ b a n) (fun-ext (coef-add A f g)) ∙ horner-add n (coef A f) (coef A g)
-          ∙ sym (ap₂ _⊕_ (eval-bound φ b f n p) (eval-bound φ b g n q))
+          ∙ sym (ap₂ _⊕_ (eval-bound f n p) (eval-bound g n q))
 
   horner-next : (a : Series A) (n : ℕ) → horner φ b a (suc n) ≡ φ .map (a zero) ⊕ b ⊗ horner φ b (tail A a) n
   unfolding horner
@@ -62,12 +66,12 @@ module _ {A B : CommRing} (φ : RingMap A B) (b : B .Car) where
 
       go : (n : ℕ) → Bound A (coef A f) n → eval φ b (const A k +ₚ X A ·ₚ f) ≡ φ .map k ⊕ b ⊗ eval φ b f
       go n p =
-          eval-bound φ b _ (suc n) (bounded n p) ∙ horner-next _ n
-          ∙ ap₂ (λ u v. φ .map u ⊕ b ⊗ v) (coef-split-head A k f) (ap (λ a. horner φ b a n) (fun-ext (coef-split-next A k f)) ∙ sym (eval-bound φ b f n p))
+          eval-bound _ (suc n) (bounded n p) ∙ horner-next _ n
+          ∙ ap₂ (λ u v. φ .map u ⊕ b ⊗ v) (coef-split-head A k f) (ap (λ a. horner φ b a n) (fun-ext (coef-split-next A k f)) ∙ sym (eval-bound f n p))
 
   pub eval-zero : eval φ b 𝟎 ≡ 𝟘
   unfolding horner
-  eval-zero = eval-bound φ b 𝟎 zero (λ i h. coef-zero A i)
+  eval-zero = eval-bound 𝟎 zero (λ i h. coef-zero A i)
 
   pub eval-const : (k : A .Car) → eval φ b (const A k) ≡ φ .map k
   eval-const k =
@@ -85,7 +89,7 @@ module _ {A B : CommRing} (φ : RingMap A B) (b : B .Car) where
   pub eval-X : eval φ b (X A) ≡ b
   eval-X = ap (eval φ b) (sym (Poly A .mul-one (X A))) ∙ eval-X-mul 𝟏 ∙ ap (λ v. b ⊗ v) eval-one ∙ B .mul-one b
 
-  pub eval-const-mul : (k : A .Car) (g : Pol) → eval φ b (const A k ·ₚ g) ≡ φ .map k ⊗ eval φ b g
+  eval-const-mul : (k : A .Car) (g : Pol) → eval φ b (const A k ·ₚ g) ≡ φ .map k ⊗ eval φ b g
   eval-const-mul k = induct A (λ g. eval φ b (const A k ·ₚ g) ≡ φ .map k ⊗ eval φ b g) (λ g. B .isSet _ _) start step
     where
       start : eval φ b (const A k ·ₚ 𝟎) ≡ φ .map k ⊗ eval φ b 𝟎
@@ -93,7 +97,8 @@ module _ {A B : CommRing} (φ : RingMap A B) (b : B .Car) where
 
       step : (c : A .Car) (g : Pol) → eval φ b (const A k ·ₚ g) ≡ φ .map k ⊗ eval φ b g → eval φ b (const A k ·ₚ (const A c +ₚ X A ·ₚ g)) ≡ φ .map k ⊗ eval φ b (const A c +ₚ X A ·ₚ g)
       step c g h =
-          ap (eval φ b) (solve (Poly A) 4 (λ k c x g. k ⊠ (c ⊞ x ⊠ g)) (λ k c x g. k ⊠ c ⊞ x ⊠ (k ⊠ g)) tt (const A k) (const A c) (X A) g ∙ ap (λ z. z +ₚ X A ·ₚ (const A k ·ₚ g)) (sym (const-mul A k c)))
+          ap (eval φ b) (solve (Poly A) 4 (λ k c x g. k ⊠ (c ⊞ x ⊠ g)) (λ k c x g. k ⊠ c ⊞ x ⊠ (k ⊠ g)) tt (const A k) (const A c) (X A) g
+          ∙ ap (λ z. z +ₚ X A ·ₚ (const A k ·ₚ g)) (sym (const-mul A k c)))
           ∙ eval-split (A .mul k c) (const A k ·ₚ g) ∙ ap₂ (λ u v. u ⊕ b ⊗ v) (φ .map-mul k c) h
           ∙ solve B 4 (λ k c b v. k ⊠ c ⊞ b ⊠ (k ⊠ v)) (λ k c b v. k ⊠ (c ⊞ b ⊠ v)) tt (φ .map k) (φ .map c) b (eval φ b g)
           ∙ ap (λ v. φ .map k ⊗ v) (sym (eval-split c g))
@@ -110,12 +115,3 @@ module _ {A B : CommRing} (φ : RingMap A B) (b : B .Car) where
           ∙ eval-add _ _ ∙ ap₂ _⊕_ (eval-const-mul k g) (eval-X-mul (f ·ₚ g) ∙ ap (λ v. b ⊗ v) h)
           ∙ solve B 4 (λ k b u v. k ⊠ v ⊞ b ⊠ (u ⊠ v)) (λ k b u v. (k ⊞ b ⊠ u) ⊠ v) tt (φ .map k) b (eval φ b f) (eval φ b g)
           ∙ ap (λ u. u ⊗ eval φ b g) (sym (eval-split k f))
-
-  pub evaluation : RingMap (Poly A) B
-  evaluation = record { map = eval φ b; map-zero = eval-zero; map-one = eval-one; map-add = eval-add; map-mul = eval-mul }
-
-  pub eval-unique : (ψ : RingMap (Poly A) B) → ((k : A .Car) → ψ .map (const A k) ≡ φ .map k) → ψ .map (X A) ≡ b → (f : Pol) → ψ .map f ≡ eval φ b f
-  eval-unique ψ c x = induct A (λ f. ψ .map f ≡ eval φ b f) (λ f. B .isSet _ _) (ψ .map-zero ∙ sym eval-zero) step
-    where
-      step : (k : A .Car) (f : Pol) → ψ .map f ≡ eval φ b f → ψ .map (const A k +ₚ X A ·ₚ f) ≡ eval φ b (const A k +ₚ X A ·ₚ f)
-      step k f h = ψ .map-add _ _ ∙ ap₂ _⊕_ (c k) (ψ .map-mul _ _ ∙ ap₂ _⊗_ x h) ∙ sym (eval-split k f)

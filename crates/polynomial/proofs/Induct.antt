@@ -8,9 +8,9 @@ use mathlib.Core.Logic.{∥∥₁-elim}
 use Prim.Native.Nat.{ℕ, zero, suc}
 use native.Mathlib.Omega.{arith}
 use Rattle.algebra.specs.Ring.{CommRing}
-use Rattle.polynomial.specs.Bounds.{Bound}
-use Rattle.polynomial.specs.Poly.{Poly, coef, poly-path, const, X, rest, finite}
-use Rattle.polynomial.proofs.Coef.{coef-zero, coef-rest, split}
+use Rattle.series.specs.Series.{Bound}
+use Rattle.polynomial.specs.Poly.{Poly, coef, poly-path, const, X, finite}
+use Rattle.polynomial.proofs.Coef.{rest, coef-zero, coef-rest, split}
 
 module _ (A : CommRing) where
   open CommRing (Poly A) using (Car as Pol, zero as 𝟎, add as _+ₚ_, mul as _·ₚ_)

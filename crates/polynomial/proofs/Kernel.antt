@@ -1,6 +1,7 @@
 -- A[Y] modulo a monic cubic F: a ring map φ from A to B and an element b of B at which F vanishes, 1, b and b² independent over A.
 -- Then evaluation at b has the multiples of F for its kernel, and what 1, b and b² span for its image.
---   eval-quadratic eval-cubic      values of quadratic polynomials and of F at b
+--   at-quadratic at-cubic          φ a0 + φ a1·b + φ a2·b², and the same of F
+--   eval-quadratic eval-cubic      they are the values of quadratic polynomials and of F at b
 --   Independent φ b                φ a0 + φ a1·b + φ a2·b² is zero only for a0 = a1 = a2 = 0
 --   eval-rest                      the value of f is that of its rest modulo F
 --   kernel                         f vanishes at b exactly if it is a multiple of F
@@ -9,12 +10,11 @@ use mathlib.Core.Logic.{_↔_}
 use Rattle.algebra.specs.Ring.{CommRing}
 use Rattle.algebra.proofs.Laws.{zero-add, mul-zero}
 use Rattle.polynomial.specs.Poly.{Poly, X}
-use Rattle.polynomial.specs.RingMap.{RingMap}
+use Rattle.algebra.specs.RingMap.{RingMap}
 use Rattle.polynomial.specs.Eval.{eval}
-use Rattle.polynomial.specs.Cubic.{cubic, quadratic, Divided}
+use Rattle.polynomial.proofs.Cubic.{cubic, quadratic, quadratic-zero}
+use Rattle.polynomial.proofs.Division.{Divided, divide}
 use Rattle.polynomial.proofs.Eval.{eval-add, eval-mul, eval-const, eval-X}
-use Rattle.polynomial.proofs.Cubic.{quadratic-zero}
-use Rattle.polynomial.proofs.Division.{divide}
 
 module _ {A B : CommRing} (φ : RingMap A B) (b : B .Car) where
   open CommRing B using (zero as 𝟘, add as _⊕_, mul as _⊗_)
@@ -65,5 +65,8 @@ module _ {A B : CommRing} (φ : RingMap A B) (b : B .Car) where
         there : eval φ b f ≡ 𝟘 → (q : Pol) × (f ≡ q ·ₚ cubic A t0 t1 t2)
         there e =
             let d = divide A t0 t1 t2 f in
-            let z = independent (d .0 .c0) (d .0 .c1) (d .0 .c2) (sym (eval-rest f d) ∙ e) in
-            (d .0 .quotient, d .1 ∙ (λ i. d .0 .quotient ·ₚ cubic A t0 t1 t2 +ₚ quadratic A (z .0 i) (z .1 i) (z .2 i)) ∙ ap (λ r. d .0 .quotient ·ₚ cubic A t0 t1 t2 +ₚ r) (quadratic-zero A) ∙ Poly A .add-zero _)
+            let z = independent (d .0 .c0) (d .0 .c1) (d .0 .c2) (sym (eval-rest f d) ∙ e) in (
+              d .0 .quotient,
+              d .1 ∙ (λ i. d .0 .quotient ·ₚ cubic A t0 t1 t2 +ₚ quadratic A (z .0 i) (z .1 i) (z .2 i))
+                  ∙ ap (λ r. d .0 .quotient ·ₚ cubic A t0 t1 t2 +ₚ r) (quadratic-zero A) ∙ Poly A .add-zero _,
+            )

@@ -4,7 +4,6 @@ pub mod Induct
 pub mod Bound
 pub mod Deriv
 pub mod Eval
-pub mod Power
 pub mod Plane
 pub mod Cubic
 pub mod Division

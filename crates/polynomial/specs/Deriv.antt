@@ -1,14 +1,14 @@
 -- The formal derivative of a polynomial over a commutative ring A.
 --   numeral A n        1 + … + 1, n times, in A
---   deriv A f          the derivative: its coefficient at i is (i + 1)·fᵢ₊₁
-use mathlib.Core.Path.{_≡_, _∙_, ap}
-use mathlib.Core.Logic.{∥∥₁-map}
+--   deriv-series a     the series with the coefficient (i + 1)·aᵢ₊₁ at i
+--   deriv A f          the derivative
+--   deriv-of-zero      the derivative of 0 is 0, on which the derivative by x in k[x, y] rests
+use mathlib.Core.Path.{_≡_}
 use Prim.Native.Nat.{ℕ, zero, suc}
-use native.Mathlib.Omega.{arith}
 use Rattle.algebra.specs.Ring.{CommRing}
 use Rattle.algebra.proofs.Laws.{mul-zero}
-use Rattle.polynomial.specs.Series.{Series}
-use Rattle.polynomial.specs.Bounds.{Finite}
+use Rattle.series.specs.Series.{Series}
+use Rattle.series.proofs.Bounds.{finite-tail, finite-times}
 use Rattle.polynomial.specs.Poly.{Poly, coef, poly, poly-path, finite}
 
 module _ (A : CommRing) where
@@ -19,12 +19,9 @@ module _ (A : CommRing) where
   unfoldable pub deriv-series : Series A → Series A
   deriv-series a i = A .mul (numeral (suc i)) (a (suc i))
 
-  pub finite-deriv : (a : Series A) → Finite A a → Finite A (deriv-series a)
-  unfolding deriv-series
-  finite-deriv a h = ∥∥₁-map h (λ x. (x .0, λ i k. ap (A .mul _) (x .1 (suc i) (omega arith)) ∙ mul-zero A _))
-
   unfoldable pub deriv : Poly A .Car → Poly A .Car
-  deriv f = poly A (deriv-series (coef A f)) (finite-deriv (coef A f) (finite A f))
+  unfolding deriv-series
+  deriv f = poly A (deriv-series (coef A f)) (finite-times A _ _ (finite-tail A (coef A f) (finite A f)))
 
   pub deriv-of-zero : deriv (Poly A .zero) ≡ Poly A .zero
   unfolding Poly coef poly deriv deriv-series

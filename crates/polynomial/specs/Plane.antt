@@ -4,21 +4,15 @@
 --   x k, y k           the variables
 --   each A h z f       h applied to each coefficient of f, for a map h that takes 0 to 0
 --   by-x k f, by-y k f the derivatives of f by x and by y
-use mathlib.Core.Path.{_≡_, _∙_, ap}
-use mathlib.Core.Logic.{∥∥₁-map}
-use Prim.Native.Nat.{zero}
+use mathlib.Core.Path.{_≡_}
 use Rattle.algebra.specs.Ring.{CommRing}
-use Rattle.polynomial.specs.Series.{Series}
-use Rattle.polynomial.specs.Bounds.{Finite}
+use Rattle.series.proofs.Bounds.{finite-each}
 use Rattle.polynomial.specs.Poly.{Poly, coef, poly, const, X, finite}
 use Rattle.polynomial.specs.Deriv.{deriv, deriv-of-zero}
 
 module _ (A : CommRing) (h : A .Car → A .Car) (z : h (A .zero) ≡ A .zero) where
-  pub finite-each : (a : Series A) → Finite A a → Finite A (λ i. h (a i))
-  finite-each a p = ∥∥₁-map p (λ x. (x .0, λ i l. ap h (x .1 i l) ∙ z))
-
   unfoldable pub each : Poly A .Car → Poly A .Car
-  each f = poly A (λ i. h (coef A f i)) (finite-each (coef A f) (finite A f))
+  each f = poly A (λ i. h (coef A f i)) (finite-each A h z (coef A f) (finite A f))
 
 module _ (k : CommRing) where
   abbrev pub Plane : CommRing

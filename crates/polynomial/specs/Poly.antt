@@ -2,20 +2,18 @@
 -- so two polynomials are equal if their coefficients are. Example: X² + 3 is 3, 0, 1, 0, 0, …
 --   Poly A             the ring of polynomials over A; shut, so that one reasons by its laws and by coefficients
 --   coef A f i         the coefficient of f at the i-th power of the variable
---   poly A a h         the polynomial with the coefficients a
+--   poly A a h         the polynomial with the coefficients a; finite A f: those of f vanish from some place on
 --   const A k          the polynomial k
 --   X A                the variable
---   rest A f           f without its constant coefficient, divided by the variable
---   power A n          the n-th power of the variable
 --   poly-path          polynomials with the same coefficients are equal
 use mathlib.Core.Path.{_≡_, refl, fun-ext}
 use mathlib.Core.Logic.{∥∥₁-prop}
 use mathlib.Core.HLevel.{Σ-prop-path, Σ-set, prop→set, →-set}
-use Prim.Native.Nat.{ℕ, zero, suc}
+use Prim.Native.Nat.{ℕ, zero}
 use Rattle.algebra.specs.Ring.{CommRing}
-use Rattle.polynomial.specs.Series.{Series, tail, product, constant, shift}
-use Rattle.polynomial.specs.SeriesLaws.{product-comm, product-assoc, product-one, product-add}
-use Rattle.polynomial.specs.Bounds.{Finite, finite-add, finite-neg, finite-product, finite-constant, finite-shift, finite-tail}
+use Rattle.series.specs.Series.{Finite, Series, product, constant, shift}
+use Rattle.series.proofs.Product.{product-comm, product-assoc, product-one, product-add}
+use Rattle.series.proofs.Bounds.{finite-add, finite-neg, finite-product, finite-constant, finite-shift}
 
 module _ (A : CommRing) where
   abbrev pub Polynomial : Type 0
@@ -65,10 +63,3 @@ module _ (A : CommRing) where
 
   unfoldable pub X : Poly .Car
   X = poly (shift A (constant A (A .one))) (finite-shift A (constant A (A .one)) (finite-constant A (A .one)))
-
-  unfoldable pub rest : Poly .Car → Poly .Car
-  rest f = poly (tail A (coef f)) (finite-tail A (coef f) (finite f))
-
-  unfoldable pub power : ℕ → Poly .Car
-  power zero = Poly .one
-  power (suc n) = Poly .mul X (power n)

@@ -16,8 +16,7 @@ use lib.Signed.{nonNeg}
 use lib.ListN.{length, getD}
 use mir.Val.{Fits}
 use mir.Syntax.{w64}
-use Rattle.algebra.proofs.Norm.{both}
-use Rattle.curve.proofs.Table.{all-below, all-below-at}
+use Rattle.algebra.proofs.Test.{both, all-below, all-below-at, both-left, both-right}
 use Rattle.layout.specs.Layout.{bytes2, bytes4, all-bytes4, record-bytes}
 use Rattle.record.specs.Curve.{modulus, equation, curve-stages, AcceptedCurve}
 use Rattle.record.specs.Listed.{joined, list-limit, AllAccepted, Listed}
@@ -29,7 +28,7 @@ use Rattle.calls.proofs.Answers.{Answered, short, enough, answer, list-of-sound
 use Rattle.calls.proofs.Exists.{list-passes}
 use Rattle.calls.proofs.Multiples.{list-class}
 use Rattle.worked.specs.Table.{E}
-use Rattle.worked.proofs.Tests.{both-left, both-right, bytes-sound}
+use Rattle.worked.proofs.Tests.{bytes-sound}
 use Rattle.worked.proofs.Worked.{worked}
 use Rattle.pool.specs.Held.{slot, Held}
 use Rattle.pool.specs.Run.{Valid, Holding, RunAsked, RunMade}

@@ -12,8 +12,8 @@ use native.Mathlib.Omega.{arith}
 use Rattle.algebra.specs.Ring.{CommRing}
 use Rattle.prime.specs.Prime.{Prime}
 use Rattle.field.specs.Residue.{Z, el}
-use Rattle.field.specs.Element.{el-one}
-use Rattle.field.specs.Field.{one-not-zero}
+use Rattle.field.proofs.Element.{el-one}
+use Rattle.field.proofs.Invert.{one-not-zero}
 use Rattle.curve.specs.Curve.{Curve}
 use Rattle.triple.specs.Equation.{curve-of, Coefficients}
 use Rattle.triple.specs.declared.equation.Equation.{Equation}

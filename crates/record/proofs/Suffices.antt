@@ -15,14 +15,13 @@ use lib.ListN.{length}
 use Rattle.algebra.specs.Ring.{CommRing, Field}
 use Rattle.prime.specs.Prime.{Prime}
 use Rattle.field.specs.Residue.{Z}
-use Rattle.field.specs.Field.{F}
-use Rattle.ideal.specs.Ideal.{SameIdeal, Generated}
+use Rattle.prime_field.specs.Field.{F}
+use Rattle.ideal.specs.Ideal.{SameIdeal, Generated, IsIdeal}
 use Rattle.ideal.specs.Reduced.{IsReduced}
 use Rattle.ideal.proofs.Every.{Every}
 use Rattle.ideal.proofs.Finite.{BasedIdeal}
 use Rattle.ideal.proofs.Generated.{generated-ideal}
 use Rattle.ideal.proofs.Reduced.{SmallFootprint, reduced-unique}
-use Rattle.ideal.specs.Ideal.{IsIdeal}
 use Rattle.curve.specs.Curve.{Coordinate}
 use Rattle.divisor.specs.Kind.{Kind, size, IdealOf, IsBasis}
 use Rattle.divisor.proofs.Exists.{RecordOf, record-exists, record-of, record-suffices}

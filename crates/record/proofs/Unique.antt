@@ -12,8 +12,8 @@ use lib.ListN.{length, getD}
 use lib.Seq.{ext-getD}
 use Rattle.algebra.specs.Ring.{CommRing, Field}
 use Rattle.field.specs.Residue.{Z, el, num}
-use Rattle.field.specs.Element.{el-inj, el-num, num-lt}
-use Rattle.field.specs.Field.{F}
+use Rattle.field.proofs.Element.{el-inj, el-num, num-lt}
+use Rattle.prime_field.specs.Field.{F}
 use Rattle.ideal.specs.Ideal.{SameIdeal}
 use Rattle.curve.specs.Curve.{Curve, Coordinate}
 use Rattle.divisor.specs.Kind.{Kind, code, count, size, IdealOf, IsBasis}

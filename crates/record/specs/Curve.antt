@@ -18,7 +18,7 @@ use lib.ListN.{length}
 use Rattle.algebra.specs.Ring.{CommRing, Field}
 use Rattle.prime.specs.Prime.{Prime}
 use Rattle.field.specs.Residue.{Z, el}
-use Rattle.field.specs.Field.{F}
+use Rattle.prime_field.specs.Field.{F}
 use Rattle.curve.specs.Curve.{Curve}
 use Rattle.nonsingular.specs.Nonsingular.{Nonsingular}
 use Rattle.layout.specs.Layout.{number2, number4}

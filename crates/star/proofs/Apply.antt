@@ -11,9 +11,10 @@ use native.Mathlib.Decide.{ℕ-discrete, decLt}
 use Rattle.algebra.specs.Ring.{CommRing}
 use Rattle.algebra.proofs.Laws as L
 use Rattle.curve.specs.Curve.{Curve, Coordinate, constant}
-use Rattle.curve.specs.Monomial.{coefficient}
-use Rattle.curve.specs.Term.{coefficient-add, coefficient-constant-mul}
-use Rattle.curve.specs.Filtration.{Below, below-coefficient}
+use Rattle.curve.specs.Sequence.{coefficient}
+use Rattle.curve.specs.Monomial.{Below}
+use Rattle.curve.proofs.Term.{coefficient-add, coefficient-constant-mul}
+use Rattle.curve.proofs.Filtration.{below-coefficient}
 use Rattle.vector.specs.Contract.{total}
 use Rattle.star.specs.Functional.{apply}
 use Rattle.star.proofs.Total.{total-same, total-add, total-scale, total-zero, total-one}

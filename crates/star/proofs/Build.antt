@@ -14,9 +14,10 @@ use Rattle.algebra.proofs.Solve.{solve-from, given, _⊞_, _⊠_, ⊟_}
 use Rattle.ideal.specs.Poles.{largest-gap}
 use Rattle.ideal.proofs.Gaps.{pole-large}
 use Rattle.curve.specs.Curve.{Curve, Coordinate}
-use Rattle.curve.specs.Monomial.{coefficient, mono, twist}
-use Rattle.curve.specs.Filtration.{Below, below-more}
-use Rattle.curve.specs.Product.{below-mono, coefficient-mono, product-below, product-top}
+use Rattle.curve.specs.Sequence.{coefficient, twist}
+use Rattle.curve.specs.Monomial.{mono, Below}
+use Rattle.curve.proofs.Filtration.{below-more}
+use Rattle.curve.proofs.Product.{below-mono, coefficient-mono, product-below, product-top}
 use Rattle.star.specs.Functional.{apply, Functional}
 use Rattle.star.proofs.Apply.{apply-same, apply-more}
 

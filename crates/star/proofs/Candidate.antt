@@ -14,11 +14,12 @@ use Rattle.ideal.specs.Ideal.{IsIdeal, Colon}
 use Rattle.ideal.specs.Poles.{largest-gap, IsPole, HasPole}
 use Rattle.ideal.proofs.Leads.{Lead}
 use Rattle.curve.specs.Curve.{Curve, Coordinate, x, y, constant}
-use Rattle.curve.specs.Coefficient.{constant-zero}
-use Rattle.curve.specs.Monomial.{coefficient, power, mono, twist}
-use Rattle.curve.specs.Filtration.{Below, below-coefficient, coefficient-below}
-use Rattle.curve.specs.Poles.{poles}
-use Rattle.curve.proofs.Monic.{coefficient-has-pole}
+use Rattle.curve.proofs.Coefficient.{constant-zero}
+use Rattle.curve.specs.Sequence.{coefficient, twist}
+use Rattle.curve.specs.Monomial.{power, mono, Below}
+use Rattle.curve.proofs.Filtration.{below-coefficient, coefficient-below}
+use Rattle.poles.specs.Poles.{poles}
+use Rattle.poles.proofs.Monic.{coefficient-has-pole}
 use Rattle.vector.proofs.Monomial.{shift-high}
 use Rattle.star.specs.Functional.{apply, Functional, candidate}
 use Rattle.star.proofs.Equations.{candidate-below, equation-u, equation-w, equation-v}

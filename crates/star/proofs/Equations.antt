@@ -17,11 +17,12 @@ use Rattle.algebra.proofs.Solve.{solve, solve-from, given, _⊞_, _⊠_, ⊟_}
 use Rattle.ideal.specs.Poles.{largest-gap, IsPole}
 use Rattle.ideal.proofs.Gaps.{pole-intro}
 use Rattle.curve.specs.Curve.{Curve, Coordinate, x, y, constant}
-use Rattle.curve.specs.Monomial.{coefficient, mono, twist}
-use Rattle.curve.specs.Filtration.{Below, below-add, below-constant-mul, below-more}
-use Rattle.curve.specs.Lead.{twist-one}
-use Rattle.curve.specs.Product.{below-mono, coefficient-mono, product-below, product-top}
-use Rattle.curve.specs.Poles.{below-constant}
+use Rattle.curve.specs.Sequence.{coefficient, twist}
+use Rattle.curve.specs.Monomial.{mono, Below}
+use Rattle.curve.proofs.Filtration.{below-add, below-constant-mul, below-more}
+use Rattle.curve.proofs.Lead.{twist-one}
+use Rattle.curve.proofs.Product.{below-mono, coefficient-mono, product-below, product-top}
+use Rattle.curve.proofs.Poles.{below-constant}
 use Rattle.divisor.proofs.Monomials.{mono-x, mono-y}
 use Rattle.star.specs.Functional.{apply, Functional, candidate}
 use Rattle.star.proofs.Apply.{apply-add, apply-scale}

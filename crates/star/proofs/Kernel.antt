@@ -15,11 +15,12 @@ use Rattle.ideal.proofs.Gaps.{pole-large}
 use Rattle.ideal.proofs.Degree.{lowered, mono-has, pole-mul, pole-at}
 use Rattle.ideal.proofs.Kernel.{Ker, ker-below, ker-less}
 use Rattle.curve.specs.Curve.{Curve, Coordinate, constant}
-use Rattle.curve.specs.Monomial.{coefficient, mono}
-use Rattle.curve.specs.Filtration.{Below, below-none, below-more, below-step}
-use Rattle.curve.specs.Product.{split}
-use Rattle.curve.specs.Poles.{poles}
-use Rattle.curve.specs.Poles as CP
+use Rattle.curve.specs.Sequence.{coefficient}
+use Rattle.curve.specs.Monomial.{mono, Below}
+use Rattle.curve.proofs.Filtration.{below-none, below-more, below-step}
+use Rattle.curve.proofs.Product.{split}
+use Rattle.poles.specs.Poles.{poles}
+use Rattle.curve.proofs.Poles as CP
 use Rattle.star.specs.Functional.{apply, Functional}
 use Rattle.star.proofs.Apply.{apply-add, apply-scale, apply-low, apply-top}
 

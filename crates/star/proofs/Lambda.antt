@@ -11,11 +11,12 @@ use lib.ListN.{length, set, replicate}
 use lib.Seq.{getD-set-same, getD-set-other}
 use Rattle.algebra.proofs.Laws as L
 use Rattle.field.specs.Residue.{Z, el}
-use Rattle.field.specs.Element.{el-zero, el-one}
+use Rattle.field.proofs.Element.{el-zero, el-one}
 use Rattle.ideal.specs.Poles.{largest-gap, IsGap}
 use Rattle.curve.specs.Curve.{Curve, Coordinate}
-use Rattle.curve.specs.Monomial.{coefficient, power, monomial, mono, twist}
-use Rattle.curve.specs.Filtration.{Below, coefficient-below}
+use Rattle.curve.specs.Sequence.{coefficient, twist}
+use Rattle.curve.specs.Monomial.{power, monomial, mono, Below}
+use Rattle.curve.proofs.Filtration.{coefficient-below}
 use Rattle.vector.specs.Vector.{Vec, Top, at, res, row, element, width}
 use Rattle.vector.specs.Contract.{RowsOf}
 use Rattle.vector.proofs.Loop.{vec-set, zeros-at}

@@ -14,9 +14,10 @@ use Rattle.ideal.proofs.Leads.{Lead}
 use Rattle.ideal.proofs.Colon.{Taken}
 use Rattle.ideal.proofs.Recognise.{colon-member}
 use Rattle.curve.specs.Curve.{Curve, Coordinate}
-use Rattle.curve.specs.Filtration.{Below, below-more}
-use Rattle.curve.specs.Product.{product-below}
-use Rattle.curve.specs.Poles.{poles}
+use Rattle.curve.specs.Monomial.{Below}
+use Rattle.curve.proofs.Filtration.{below-more}
+use Rattle.curve.proofs.Product.{product-below}
+use Rattle.poles.specs.Poles.{poles}
 use Rattle.star.specs.Functional.{apply, Functional}
 use Rattle.star.proofs.Kernel.{functional-kernel}
 

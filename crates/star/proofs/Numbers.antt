@@ -12,8 +12,9 @@ use Rattle.field.specs.Residue.{Z, el}
 use Rattle.field.specs.Contract.{Is}
 use Rattle.ideal.specs.Poles.{largest-gap}
 use Rattle.curve.specs.Curve.{Curve, Coordinate}
-use Rattle.curve.specs.Monomial.{mono, twist}
-use Rattle.curve.specs.Lead.{twist-one, twist-turn}
+use Rattle.curve.specs.Monomial.{mono}
+use Rattle.curve.specs.Sequence.{twist}
+use Rattle.curve.proofs.Lead.{twist-one, twist-turn}
 use Rattle.vector.specs.Vector.{res, width}
 use Rattle.vector.specs.Contract.{RowsOf}
 use Rattle.ground.specs.Ground.{Unit-of}

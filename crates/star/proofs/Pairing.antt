@@ -13,11 +13,12 @@ use Rattle.algebra.specs.Ring.{CommRing}
 use Rattle.algebra.proofs.Laws as L
 use Rattle.algebra.proofs.Solve.{solve, _⊠_}
 use Rattle.field.specs.Residue.{Z, el}
-use Rattle.field.specs.Element.{el-zero}
+use Rattle.field.proofs.Element.{el-zero}
 use Rattle.field.specs.Contract.{Is}
 use Rattle.ideal.specs.Poles.{largest-gap}
 use Rattle.curve.specs.Curve.{Curve, Coordinate, x, y}
-use Rattle.curve.specs.Monomial.{coefficient, power, monomial, mono}
+use Rattle.curve.specs.Sequence.{coefficient}
+use Rattle.curve.specs.Monomial.{power, monomial, mono}
 use Rattle.vector.specs.Vector.{at, res, row, element, x-to, width}
 use Rattle.vector.specs.Contract.{pairing, RowsOf}
 use Rattle.vector.proofs.Monomial.{shift-high, shift-low}

@@ -10,17 +10,19 @@ use native.Mathlib.Omega.{arith}
 use lib.ListN.{replicate}
 use Rattle.algebra.specs.Ring.{CommRing, Field}
 use Rattle.field.specs.Residue.{Z, el}
-use Rattle.field.specs.Element.{el-zero}
-use Rattle.field.specs.Field.{F, prime-large}
+use Rattle.field.proofs.Element.{el-zero}
+use Rattle.prime_field.specs.Field.{F}
+use Rattle.field.proofs.Invert.{prime-large}
 use Rattle.ideal.specs.Ideal.{Colon}
 use Rattle.ideal.specs.Poles.{largest-gap, IsPole}
 use Rattle.ideal.proofs.Every.{Every}
 use Rattle.ideal.proofs.Leads.{Lead}
 use Rattle.ideal.proofs.Gaps.{pole-intro, pole-large}
 use Rattle.curve.specs.Curve.{Curve, Coordinate, x, y, constant}
-use Rattle.curve.specs.Monomial.{coefficient, mono, twist}
-use Rattle.curve.specs.Filtration.{Below, coefficient-below}
-use Rattle.curve.proofs.Monic.{monic-coefficient}
+use Rattle.curve.specs.Sequence.{coefficient, twist}
+use Rattle.curve.specs.Monomial.{mono, Below}
+use Rattle.curve.proofs.Filtration.{coefficient-below}
+use Rattle.poles.proofs.Monic.{monic-coefficient}
 use Rattle.divisor.specs.Kind.{Kind, code, k0, k11, k21, k22, k31, polynomials}
 use Rattle.divisor.proofs.Monomials.{mono-x, mono-y, mono-xx, mono-xy, mono-yy}
 use Rattle.divisor.proofs.Star.{Matched, star-recognised}

@@ -22,7 +22,8 @@ use Rattle.ideal.specs.Ideal.{IsIdeal}
 use Rattle.ideal.specs.Poles.{largest-gap}
 use Rattle.ideal.specs.Reduced.{IsStar}
 use Rattle.curve.specs.Curve.{Curve, Coordinate}
-use Rattle.curve.specs.Monomial.{coefficient, mono, twist}
+use Rattle.curve.specs.Sequence.{coefficient, twist}
+use Rattle.curve.specs.Monomial.{mono}
 use Rattle.divisor.specs.Kind.{Kind, IdealOf}
 use Rattle.vector.specs.Vector.{Vec, at, res, element, x-to, width}
 use Rattle.vector.specs.Contract.{Rows, RowsOf}

@@ -1,11 +1,10 @@
--- Decimal numbers: by their last digit, how many digits there are, and that the digits are those of the number.
+-- Decimal numbers: by their last digit, and how many digits there are.
 --   decimal-small, decimal-large    a number below 10; any other by its last digit and the rest
 --   ten-digits       ten digits at most below 2³²
---   value ds         the number that the digits ds stand for
---   value-decimal    the digits of n stand for n
+--   length-large     a number from 10 on has one digit more than a tenth of it
 use mathlib.Core.Path.{_≡_, refl, sym, ap, _∙_}
 use mathlib.Core.List.{List, [], _∷_, _++_}
-use Prim.Native.Nat.{ℕ, zero, suc, _+_, _*_, _-_, _/_, _%_, _≤_, _<_}
+use Prim.Native.Nat.{ℕ, zero, suc, _+_, _*_, _/_, _%_, _≤_, _<_}
 use native.Mathlib.Decide.{decLt}
 use native.Mathlib.Omega.{arith}
 use borrow.Author.Tests.{lt-ltb, le-ltb}
@@ -63,28 +62,3 @@ digits-upto (suc k) n h = go (decLt n 10) (digits-upto k (n / 10))
 pub ten-digits : (n : ℕ) → n < 4294967296 → length (decimal n) ≤ 10
 unfolding power
 ten-digits n h = digits-upto 9 n (omega arith)
-
-pub value-from : ℕ → List ℕ → ℕ
-value-from v [] = v
-value-from v (d ∷ ds) = value-from (10 * v + (d - 48)) ds
-
-abbrev pub value : List ℕ → ℕ
-value ds = value-from 0 ds
-
-value-last : (v : ℕ) (ds : List ℕ) (d : ℕ) → value-from v (ds ++ digit d ∷ []) ≡ 10 * value-from v ds + d
-unfolding value-from
-value-last v [] d = omega arith
-value-last v (e ∷ ds) d = value-last (10 * v + (e - 48)) ds d
-
-value-upto : (k n : ℕ) → n ≤ k → value (decimal n) ≡ n
-unfolding value-from
-value-upto zero n h = ap value (decimal-small n (omega arith)) ∙ omega arith
-value-upto (suc k) n h = go (decLt n 10) (value-upto k (n / 10))
-  where
-    go : Dec (n < 10) → (n / 10 ≤ k → value (decimal (n / 10)) ≡ n / 10) → value (decimal n) ≡ n
-    go (yes l) rest = ap value (decimal-small n l) ∙ omega arith
-    go (no l) rest =
-        ap value (decimal-large n (omega (arith, l))) ∙ value-last 0 (decimal (n / 10)) (n % 10) ∙ omega (arith, rest (omega arith))
-
-pub value-decimal : (n : ℕ) → value (decimal n) ≡ n
-value-decimal n = value-upto n n (omega arith)

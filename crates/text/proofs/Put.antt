@@ -2,15 +2,13 @@
 --   put-nothing      nothing put
 --   put-one          one store
 --   put-then         a text and then another, behind it, are the two together
---   put-length       the buffer keeps its length
 --   put-pasted       a text that was copied byte by byte
 use mathlib.Core.Path.{_≡_, refl, sym, ap, _∙_}
 use mathlib.Core.List.{List, [], _∷_, _++_, append-assoc, append-nil}
-use Prim.Native.Nat.{ℕ, zero, suc, _+_, _≤_, _<_}
+use Prim.Native.Nat.{ℕ, _+_, _≤_}
 use native.Mathlib.Nat.{add-zero}
-use native.Mathlib.Numerals.{add-one}
 use native.Mathlib.Omega.{arith}
-use lib.ListN.{length, take, drop, set, length-append, length-drop, take-append-drop}
+use lib.ListN.{length, take, drop, set, length-append, take-append-drop}
 use lib.Seq.{take-at, drop-at, drop-drop, length-take-le, sets-eq, paste, take-length}
 use Rattle.text.specs.Put.{Put}
 
@@ -27,10 +25,6 @@ put-one s at b h = record { next = refl; is = sets-eq (b ∷ []) s at h }
 module _ {s : List ℕ} {at : ℕ} {text : List ℕ} {m : ℕ} {s′ : List ℕ} (room : m ≤ length s) (p : Put s at text m s′) where
   front : length (take at s ++ text) ≡ m
   front = omega (arith, length-append (take at s) text, length-take-le at s (omega (arith, p .next)), p .next)
-
-  pub put-length : length s′ ≡ length s
-  put-length =
-      omega (arith, ap length (p .is), length-append (take at s ++ text) (drop (at + length text) s), front, p .next, length-drop (at + length text) s)
 
   pub put-then : {more : List ℕ} {r : ℕ} {s″ : List ℕ} → Put s′ m more r s″ → Put s at (text ++ more) r s″
   put-then {more} {r} {s″} q =

@@ -1,5 +1,6 @@
 -- Decimal numbers as bytes.
 --   digit d          the byte of the digit d, for d below 10
+--   decimal-upto k n the digits of n, for n at most k
 --   decimal n        the digits of n in base 10, the highest first; the digit 0 for n = 0
 --   two-digits n     n below 100 in two digits
 use mathlib.Core.List.{List, [], _∷_, _++_}
@@ -10,7 +11,6 @@ use lib.Dec.{ltb}
 abbrev pub digit : ℕ → ℕ
 digit d = 48 + d
 
--- the digits of n, for n at most the first number
 unfoldable pub decimal-upto : ℕ → ℕ → List ℕ
 decimal-upto zero n = digit n ∷ []
 decimal-upto (suc k) n =

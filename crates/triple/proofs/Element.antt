@@ -13,16 +13,18 @@ use native.Mathlib.Omega.{arith}
 use Rattle.algebra.specs.Ring.{CommRing, Field}
 use Rattle.algebra.proofs.Laws as L
 use Rattle.field.specs.Residue.{Z, el}
-use Rattle.field.specs.Element.{el-zero, el-one, el-pos, el-inj}
-use Rattle.field.specs.Field.{F}
-use Rattle.field.specs.Inverse.{lt-of-ne}
+use Rattle.field.proofs.Element.{el-zero, el-one, el-pos, el-inj}
+use Rattle.prime_field.specs.Field.{F}
+use Rattle.field.proofs.Invert.{lt-of-ne}
 use Rattle.ideal.specs.Poles.{IsPole, Poles, HasPole, Monic}
 use Rattle.ideal.proofs.Span.{InX, inx-constant, inx-x, inx-one}
 use Rattle.curve.specs.Curve.{Curve, x, y, constant}
-use Rattle.curve.specs.Monomial.{coefficient, power, monomial, mono}
-use Rattle.curve.specs.Filtration.{coefficient-below}
-use Rattle.curve.specs.Poles.{poles, below-constant}
-use Rattle.curve.proofs.Monic.{coefficient-has-pole, has-pole-coefficient, coefficient-monic}
+use Rattle.curve.specs.Sequence.{coefficient}
+use Rattle.curve.specs.Monomial.{power, monomial, mono}
+use Rattle.curve.proofs.Filtration.{coefficient-below}
+use Rattle.poles.specs.Poles.{poles}
+use Rattle.curve.proofs.Poles.{below-constant}
+use Rattle.poles.proofs.Monic.{coefficient-has-pole, has-pole-coefficient, coefficient-monic}
 use Rattle.vector.specs.Vector.{Vec, Top, at, element, x-to}
 use Rattle.vector.proofs.Loop.{gap-zero}
 use Rattle.vector.proofs.Element.{element-coefficient}

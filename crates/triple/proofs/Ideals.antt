@@ -12,7 +12,7 @@ use native.Mathlib.Decide.{decLe, decLt}
 use lib.ListN.{length}
 use Rattle.algebra.specs.Ring.{CommRing}
 use Rattle.algebra.proofs.Laws.{ring}
-use Rattle.field.specs.Field.{F}
+use Rattle.prime_field.specs.Field.{F}
 use Rattle.ideal.specs.Ideal.{IsIdeal, Generated, SameIdeal}
 use Rattle.ideal.specs.Poles.{Poles, HasPole}
 use Rattle.ideal.specs.Reduced.{Least}
@@ -21,7 +21,7 @@ use Rattle.ideal.proofs.Every.{Every}
 use Rattle.ideal.proofs.Leads.{Based, Lead, space-neg}
 use Rattle.ideal.proofs.Span.{Span, span-generated, span-ideal, span-space}
 use Rattle.curve.specs.Curve.{y}
-use Rattle.curve.proofs.Monic.{has-pole-coefficient}
+use Rattle.poles.proofs.Monic.{has-pole-coefficient}
 use Rattle.vector.specs.Vector.{at, row, element, width}
 use Rattle.triple.specs.Setting as setting
 use Rattle.triple.specs.Setting.{Setting, poles-of, Ready}

@@ -18,7 +18,7 @@ use Rattle.algebra.specs.Ring.{CommRing, Field}
 use Rattle.algebra.proofs.Laws.{ring}
 use Rattle.prime.specs.Prime.{Prime}
 use Rattle.field.specs.Residue.{Z}
-use Rattle.field.specs.Field.{F}
+use Rattle.prime_field.specs.Field.{F}
 use Rattle.ideal.specs.Ideal.{SameIdeal}
 use Rattle.ideal.specs.Poles.{Poles}
 use Rattle.ideal.proofs.Every.{Every, every-map, every-source, every-image}

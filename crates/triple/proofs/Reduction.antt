@@ -16,11 +16,11 @@ use borrow.Author.Tests.{not-true, not-false}
 use Rattle.algebra.specs.Ring.{CommRing}
 use Rattle.algebra.proofs.Laws as L
 use Rattle.field.specs.Residue.{Z, el}
-use Rattle.field.specs.Element.{el-zero, el-one, el-inj, el-pos}
+use Rattle.field.proofs.Element.{el-zero, el-one, el-inj, el-pos}
 use Rattle.ideal.proofs.Span.{span-nil, span-sum, span-times, inx-mul}
 use Rattle.curve.specs.Curve.{Curve, Coordinate, y}
-use Rattle.curve.specs.Monomial.{coefficient}
-use Rattle.curve.specs.Term.{coefficient-zero, coefficient-add, coefficient-constant-mul}
+use Rattle.curve.specs.Sequence.{coefficient}
+use Rattle.curve.proofs.Term.{coefficient-zero, coefficient-add, coefficient-constant-mul}
 use Rattle.vector.specs.Vector.{Vec, Top, at, res, row, element, x-to, scalar, width}
 use Rattle.vector.specs.Contract.{ClearAsked, Cleared, TimesYAsked, TimesY, ZeroTest}
 use Rattle.vector.proofs.Monomial.{shift-high}

@@ -15,16 +15,16 @@ use lib.Seq.{getD-append-add}
 use Rattle.algebra.specs.Ring.{CommRing}
 use Rattle.algebra.proofs.Laws as L
 use Rattle.field.specs.Residue.{Z, el}
-use Rattle.field.specs.Element.{el-zero, el-one}
+use Rattle.field.proofs.Element.{el-zero, el-one}
 use Rattle.field.specs.Contract.{Is}
 use Rattle.ideal.proofs.Every.{Every}
 use Rattle.curve.specs.Curve.{Curve, Coordinate, y}
 use Rattle.curve.specs.Curve as K
-use Rattle.curve.specs.Back.{back-low, back-high, weigh, weigh-from}
-use Rattle.curve.specs.Coefficient.{at-ext, at-one-0, at-one-x, at-one-y, at-y-0, at-y-1, at-y-2}
+use Rattle.curve.proofs.Back.{back-low, back-high, weigh, weigh-from}
+use Rattle.curve.proofs.Coefficient.{at-ext, at-one-0, at-one-x, at-one-y, at-y-0, at-y-1, at-y-2}
 use Rattle.curve.specs.Pole.{pole}
-use Rattle.curve.specs.Monomial.{coefficient}
-use Rattle.curve.specs.Term.{coefficient-ext}
+use Rattle.curve.specs.Sequence.{coefficient}
+use Rattle.curve.proofs.Term.{coefficient-ext}
 use Rattle.curve.proofs.Monomial.{at-y-0-straight, at-y-1-straight, at-y-2-straight}
 use Rattle.nonsingular.specs.Derivative.{twice, thrice, vector-x, vector-y, derivative-x, derivative-y}
 use Rattle.nonsingular.proofs.Derivative.{coefficient-derivative-x, coefficient-derivative-y}

@@ -17,7 +17,7 @@ use Rattle.prime.specs.Prime.{Prime}
 use Rattle.ideal.specs.Ideal.{SameIdeal, Product}
 use Rattle.ideal.proofs.Span.{Span}
 use Rattle.curve.specs.Curve.{y}
-use Rattle.curve.specs.Monomial.{coefficient}
+use Rattle.curve.specs.Sequence.{coefficient}
 use Rattle.field.specs.Residue.{Z}
 use Rattle.vector.specs.Vector.{Vec, Top, at, row, width, element}
 use Rattle.vector.specs.Contract.{Rows, RowsOf}

@@ -8,10 +8,10 @@ use Prim.Native.Nat.{ℕ}
 use Rattle.algebra.specs.Ring.{CommRing, Field}
 use Rattle.prime.specs.Prime.{Prime}
 use Rattle.field.specs.Residue.{Z}
-use Rattle.field.specs.Field.{F}
+use Rattle.prime_field.specs.Field.{F}
 use Rattle.ideal.specs.Poles.{Poles}
 use Rattle.curve.specs.Curve.{Curve, Coordinate}
-use Rattle.curve.specs.Poles.{poles}
+use Rattle.poles.specs.Poles.{poles}
 use Rattle.vector.specs.Vector.{Vec, Top}
 use Rattle.vector.specs.Contract.{Cube}
 

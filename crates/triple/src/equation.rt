@@ -1,8 +1,7 @@
 // Curves by their coefficients: the vector of y³, and the test whether the curve is nonsingular.
 ghost use Rattle.algebra.specs.Ring.{CommRing};
-ghost use Rattle.field.specs.Residue.{el};
+ghost use Rattle.field.specs.Residue.{el, Z};
 ghost use Rattle.field.specs.Contract.{Below₁, Is};
-ghost use Rattle.field.specs.Residue.{Z};
 ghost use Rattle.nonsingular.specs.Derivative.{twice as double, thrice as triple};
 ghost use Rattle.triple.specs.Equation.{Coefficients, IsCube, DerivativeAsked, DerivativeX, DerivativeY, TestAsked, NonsingularTest};
 

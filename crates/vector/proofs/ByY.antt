@@ -15,10 +15,10 @@ use Rattle.algebra.specs.Ring.{CommRing}
 use Rattle.algebra.proofs.Solve.{solve, _⊞_, _⊠_}
 use Rattle.algebra.proofs.Norm.{unit}
 use Rattle.field.specs.Residue.{Z, el}
-use Rattle.field.specs.Element.{el-zero}
+use Rattle.field.proofs.Element.{el-zero}
 use Rattle.curve.specs.Curve.{Curve, Coordinate, y}
 use Rattle.curve.specs.Curve as K
-use Rattle.curve.specs.Coefficient.{at-ext}
+use Rattle.curve.proofs.Coefficient.{at-ext}
 use Rattle.curve.specs.Pole.{pole}
 use Rattle.curve.specs.Monomial.{power}
 use Rattle.vector.specs.Vector.{Vec, Top, at, res, element, x-to, y-to, scalar}

@@ -15,12 +15,13 @@ use Rattle.algebra.specs.Ring.{CommRing}
 use Rattle.algebra.proofs.Laws as L
 use Rattle.ideal.specs.Poles.{IsPole}
 use Rattle.field.specs.Residue.{Z, el}
-use Rattle.field.specs.Element.{el-zero}
+use Rattle.field.proofs.Element.{el-zero}
 use Rattle.curve.specs.Curve.{Curve, Coordinate, constant}
 use Rattle.curve.specs.Curve as K
-use Rattle.curve.specs.Pole.{pole, Located, place, gap, locate, pole-is-pole}
-use Rattle.curve.specs.Monomial.{coefficient}
-use Rattle.curve.specs.Term.{coefficient-pole, coefficient-gap, coefficient-ext, coefficient-add, coefficient-constant-mul, coefficient-vector}
+use Rattle.curve.specs.Pole.{pole}
+use Rattle.curve.proofs.Pole.{Located, place, gap, locate, pole-is-pole}
+use Rattle.curve.specs.Sequence.{coefficient}
+use Rattle.curve.proofs.Term.{coefficient-pole, coefficient-gap, coefficient-ext, coefficient-add, coefficient-constant-mul, coefficient-vector}
 use Rattle.curve.proofs.Vector.{vector-same, vector-zero, vector-scale}
 use Rattle.vector.specs.Vector.{Vec, Top, at, res, element, past-end, x-to, scalar}
 use Rattle.vector.specs.Contract.{Added}

@@ -10,7 +10,9 @@ use native.Mathlib.Omega.{arith}
 use mir.Syntax.{w64}
 use mir.Val.{Fits}
 use Rattle.ideal.specs.Poles.{IsGap}
-use Rattle.curve.specs.Pole.{pole, y-power, pole-y, y-at, x-at}
+use Rattle.curve.specs.Pole.{pole, y-power}
+use Rattle.curve.proofs.Pole.{pole-y}
+use Rattle.curve.specs.Table.{y-at, x-at}
 use Rattle.curve.proofs.Table.{Entry, monomial, mark, table-right}
 
 class-of : (n i j : ℕ) → j ≤ 2 → n ≡ pole i j → j ≡ n % 3

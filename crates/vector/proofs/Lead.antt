@@ -13,12 +13,13 @@ use Rattle.algebra.proofs.Laws as L
 use Rattle.algebra.proofs.Solve.{solve, _⊞_, _⊠_, ⊟_}
 use Rattle.ideal.specs.Poles.{IsGap}
 use Rattle.field.specs.Residue.{Z, el}
-use Rattle.field.specs.Element.{el-zero, el-one, el-pos}
+use Rattle.field.proofs.Element.{el-zero, el-one, el-pos}
 use Rattle.field.specs.Inverse.{inverse}
-use Rattle.field.specs.Field.{F, prime-large, inverse-unique}
+use Rattle.prime_field.specs.Field.{F}
+use Rattle.field.proofs.Invert.{prime-large, inverse-unique}
 use Rattle.field.specs.Contract.{Is}
 use Rattle.curve.specs.Curve.{Curve, Coordinate, constant}
-use Rattle.curve.specs.Coefficient.{constant-one, constant-neg, constant-mul}
+use Rattle.curve.proofs.Coefficient.{constant-one, constant-neg, constant-mul}
 use Rattle.vector.specs.Vector.{Vec, Top, at, res, element, x-to, scalar}
 use Rattle.vector.specs.Contract.{Added, ClearAsked, Cleared, MonicAsked, MadeMonic, Scaled}
 use Rattle.vector.proofs.Loop.{gap-zero, set-cases, vec-set}

@@ -19,9 +19,9 @@ use lib.ListN.{length, set, length-set, replicate, List·getD-eq-default}
 use lib.Seq.{getD-set-same, getD-set-other}
 use Rattle.algebra.proofs.Laws as L
 use Rattle.field.specs.Residue.{Z, el}
-use Rattle.field.specs.Element.{el-zero, el-inj}
+use Rattle.field.proofs.Element.{el-zero, el-inj}
 use Rattle.field.specs.Contract.{Is}
-use Rattle.field.specs.Inverse.{lt-of-ne}
+use Rattle.field.proofs.Invert.{lt-of-ne}
 use Rattle.ideal.specs.Poles.{IsGap}
 use Rattle.vector.specs.Vector.{Vec, at, res, width}
 use Rattle.vector.specs.Contract.{AxpyAsked, Added, ScaleAsked, Scaled, ShiftAsked, Shifted, total, pairing, ZeroTest}

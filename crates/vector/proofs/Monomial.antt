@@ -9,9 +9,11 @@ use Rattle.algebra.specs.Ring.{CommRing}
 use Rattle.algebra.proofs.Laws as L
 use Rattle.ideal.specs.Poles.{IsPole}
 use Rattle.curve.specs.Curve.{Curve, Coordinate, x, y, constant}
-use Rattle.curve.specs.Pole.{pole, Located, place, gap, locate}
-use Rattle.curve.specs.Monomial.{power, monomial, coefficient, vector}
-use Rattle.curve.specs.Term.{coefficient-pole, coefficient-gap, coefficient-add, coefficient-constant-mul, coefficient-vector, coefficient-x-low, coefficient-x-high}
+use Rattle.curve.specs.Pole.{pole}
+use Rattle.curve.proofs.Pole.{Located, place, gap, locate}
+use Rattle.curve.specs.Monomial.{power, monomial}
+use Rattle.curve.specs.Sequence.{coefficient, vector}
+use Rattle.curve.proofs.Term.{coefficient-pole, coefficient-gap, coefficient-add, coefficient-constant-mul, coefficient-vector, coefficient-x-low, coefficient-x-high}
 use Rattle.curve.proofs.Monomial.{at-monomial-same, at-monomial-other}
 use Rattle.curve.proofs.Vector.{vector-is}
 

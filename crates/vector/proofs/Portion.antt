@@ -12,12 +12,13 @@ use lib.ListN.{length}
 use Rattle.algebra.specs.Ring.{CommRing}
 use Rattle.ideal.specs.Poles.{IsPole}
 use Rattle.field.specs.Residue.{Z, el}
-use Rattle.field.specs.Element.{el-zero}
+use Rattle.field.proofs.Element.{el-zero}
 use Rattle.curve.specs.Curve.{Curve, Coordinate}
 use Rattle.curve.specs.Curve as K
-use Rattle.curve.specs.Pole.{pole, pole-is-pole}
-use Rattle.curve.specs.Monomial.{vector}
-use Rattle.curve.specs.Term.{coefficient-pole, coefficient-vector}
+use Rattle.curve.specs.Pole.{pole}
+use Rattle.curve.proofs.Pole.{pole-is-pole}
+use Rattle.curve.specs.Sequence.{vector}
+use Rattle.curve.proofs.Term.{coefficient-pole, coefficient-vector}
 use Rattle.curve.proofs.Vector.{vector-same, vector-zero}
 use Rattle.vector.specs.Vector.{at, res, element, past-end, x-to, y-to, scalar}
 use Rattle.vector.proofs.Monomial.{vector-step}

@@ -16,7 +16,8 @@ use Rattle.algebra.proofs.Solve.{solve, _⊞_, _⊠_}
 use Rattle.ideal.specs.Poles.{IsGap, IsPole}
 use Rattle.field.specs.Residue.{Z}
 use Rattle.curve.specs.Curve.{Curve, Coordinate}
-use Rattle.curve.specs.Pole.{pole, y-at, x-at}
+use Rattle.curve.specs.Pole.{pole}
+use Rattle.curve.specs.Table.{y-at, x-at}
 use Rattle.vector.specs.Vector.{Vec, Top, at, row, element, x-to, y-to, scalar}
 use Rattle.vector.specs.Contract.{Added, AxpyAsked, RowsOf, TimesAsked, Times}
 use Rattle.vector.proofs.Loop.{zeros-at}

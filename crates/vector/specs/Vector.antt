@@ -15,9 +15,10 @@ use mathlib.Core.List.{List, []}
 use Prim.Native.Nat.{ℕ, _<_, _≤_}
 use lib.ListN.{length, getD, List·getD-eq-default}
 use Rattle.field.specs.Residue.{Z, el}
-use Rattle.field.specs.Element.{el-zero}
+use Rattle.field.proofs.Element.{el-zero}
 use Rattle.curve.specs.Curve.{Curve, Coordinate, x, y, constant}
-use Rattle.curve.specs.Monomial.{vector, power}
+use Rattle.curve.specs.Sequence.{vector}
+use Rattle.curve.specs.Monomial.{power}
 
 abbrev pub width : ℕ
 width = 26

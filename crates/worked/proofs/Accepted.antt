@@ -8,6 +8,7 @@
 --   Fault              why a record of its kind's form is refused: a number not below p; or no basis, and how 1 is made of its polynomials
 --   Spoilt             certificate of a refused record: its kind and its fault
 --   spoilt c w n k     the test; spoilt-sound: the record w is refused with n, which is 8 or 9
+--   numbers-of         the numbers of a record in bytes
 use mathlib.Core.Path.{_≡_, refl, sym, subst}
 use mathlib.Core.Logic.{inl, inr}
 use mathlib.Core.Bool.{Bool}
@@ -17,7 +18,8 @@ use native.Mathlib.Omega.{arith}
 use lib.Dec.{T, leb, ltb, eqb, leb→le, ltb→lt, eqb→eq}
 use lib.ListN.{length, getD}
 use Rattle.algebra.specs.Ring.{CommRing}
-use Rattle.algebra.proofs.Norm.{E, unit, both}
+use Rattle.algebra.proofs.Norm.{E, unit}
+use Rattle.algebra.proofs.Test.{both, both-left, both-right}
 use Rattle.prime.specs.Prime.{Prime}
 use Rattle.field.specs.Residue.{el}
 use Rattle.ideal.specs.Ideal.{Generated}
@@ -37,7 +39,7 @@ use Rattle.record.proofs.Accepted.{Reads, reads-accepted, same-kind}
 use Rattle.record.proofs.DivisorReader.{divisor-rest}
 use Rattle.calls.specs.Class.{Record}
 use Rattle.calls.specs.Call.{divisor-of}
-use Rattle.worked.proofs.Tests.{both-left, both-right, prime, prime-sound, below, below-sound, bytes, bytes-sound}
+use Rattle.worked.proofs.Tests.{prime, prime-sound, below, below-sound, bytes, bytes-sound}
 use Rattle.worked.proofs.Vanish.{at-xy, agree, agree-sound}
 use Rattle.worked.proofs.Element.{by-x, by-y, by-x-is, by-y-is}
 use Rattle.worked.proofs.Basis.{combine, polynomials-xy, values, generated-combine, ideal-combine, closed, basis-sound, proper, one-basis, whole, whole-sound}

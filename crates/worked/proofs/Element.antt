@@ -15,13 +15,14 @@ use lib.Dec.{T, ltb, ltb→lt}
 use lib.ListN.{getD}
 use Rattle.algebra.specs.Ring.{CommRing}
 use Rattle.algebra.proofs.Laws as L
-use Rattle.algebra.proofs.Norm.{E, var, num, nil, unit, sum, prod, opp, pow, H, z, con, cons, both}
+use Rattle.algebra.proofs.Norm.{E, var, num, nil, unit, sum, prod, opp, pow, H, z, con, cons}
+use Rattle.algebra.proofs.Test.{both, both-left, both-right, either, of-either}
 use Rattle.algebra.proofs.Sound.{number, raise}
 use Rattle.algebra.proofs.Solve.{_⊞_, _⊠_}
 use Rattle.prime.specs.Prime.{Prime}
 use Rattle.field.specs.Residue.{Z, el}
-use Rattle.field.specs.Element.{el-zero, el-one, el-add, el-mod-same}
-use Rattle.field.specs.Field as field
+use Rattle.field.proofs.Element.{el-zero, el-one, el-add, el-mod-same}
+use Rattle.prime_field.specs.Field as field
 use Rattle.polynomial.specs.Poly.{Poly, coef}
 use Rattle.polynomial.proofs.Kernel.{eval-quadratic}
 use Rattle.ideal.specs.Poles.{Poles}
@@ -29,15 +30,14 @@ use Rattle.ideal.proofs.Degree.{one-pole, neg-one-constant}
 use Rattle.ideal.proofs.Span.{InX, nought, inx-sum, inx-scale, inx-x, inx-constant, inx-mul, inx-one}
 use Rattle.curve.specs.Curve as K
 use Rattle.curve.specs.Curve.{Curve, Coordinate, constant, in-x, ascending, at}
-use Rattle.curve.specs.Coefficient.{at-zero}
-use Rattle.curve.specs.Poles.{poles}
-use Rattle.nonsingular.specs.Normal.{of-parts, over-x, in-x-zero, in-x-add, in-x-mul}
+use Rattle.curve.proofs.Coefficient.{at-zero, in-x-zero, in-x-add, in-x-mul}
+use Rattle.poles.specs.Poles.{poles}
+use Rattle.nonsingular.specs.Normal.{of-parts, over-x}
 use Rattle.nonsingular.specs.Derivative.{twice, thrice, four-times, derivative-x, derivative-y}
 use Rattle.nonsingular.proofs.Quotient.{normal-quadratic, part-0, part-1, part-2}
 use Rattle.nonsingular.proofs.Derivative.{coef-ascending}
 use Rattle.divisor.proofs.Monomials.{mono-x}
 use Rattle.divisor.proofs.Members.{poles-mono}
-use Rattle.worked.proofs.Tests.{both-left, both-right, either, of-either}
 use Rattle.worked.proofs.Vanish.{x, y, coefficients-of, at-xy, constant-number, Division, divide, agree, agree-sound}
 
 abbrev pub only-x : E → Bool

@@ -6,6 +6,7 @@
 --   products-xy gs hs      the products of one expression from each list; values-products
 --   Link                   the certificate
 --   link c a b w κs k      the test; sum-sound: w is the sum of a and b
+--   polynomials-of κ w     the polynomials of a record in bytes as expressions; ideal-values: they generate its ideal
 use mathlib.Core.Path.{_≡_, refl, sym, _∙_, ap, ap₂, subst}
 use mathlib.Core.Bool.{Bool, true}
 use mathlib.Core.List.{List, [], _∷_, _++_, map}
@@ -14,7 +15,8 @@ use native.Mathlib.Omega.{arith}
 use lib.Dec.{T}
 use Rattle.algebra.specs.Ring.{CommRing}
 use Rattle.algebra.proofs.Laws as L
-use Rattle.algebra.proofs.Norm.{E, both}
+use Rattle.algebra.proofs.Norm.{E}
+use Rattle.algebra.proofs.Test.{both, both-left, both-right}
 use Rattle.algebra.proofs.Sound.{head, tail}
 use Rattle.algebra.proofs.Solve.{_⊠_}
 use Rattle.ideal.specs.Ideal.{IsIdeal, Generated, Product, SameIdeal, Equivalent}
@@ -30,7 +32,6 @@ use Rattle.record.specs.Divisor.{of-kind}
 use Rattle.record.proofs.Accepted.{ideal-reads}
 use Rattle.calls.specs.Class.{Ring, Record, Ideal, poles-on, IsSum}
 use Rattle.calls.proofs.Class.{class-reduced}
-use Rattle.worked.proofs.Tests.{both-left, both-right}
 use Rattle.worked.proofs.Vanish.{coefficients-of, at-xy, agree, agree-sound}
 use Rattle.worked.proofs.Element.{nonzero, nonzero-sound}
 use Rattle.worked.proofs.Basis.{combine, polynomials-xy, values, values-polynomials, generated-combine}

@@ -11,11 +11,12 @@ use Prim.Native.Nat.{ℕ, _+_, _-_, _%_, _≤_}
 use native.Mathlib.Omega.{arith}
 use lib.Dec.{T, leb, leb→le}
 use Rattle.algebra.specs.Ring.{CommRing, Field}
-use Rattle.algebra.proofs.Norm.{E, num, nil, both}
+use Rattle.algebra.proofs.Norm.{E, num, nil}
+use Rattle.algebra.proofs.Test.{both, both-left, both-right}
 use Rattle.algebra.proofs.Sound.{number, head, tail}
 use Rattle.algebra.proofs.Solve.{_⊞_, _⊠_, ⊟_}
 use Rattle.field.specs.Residue.{Z, el}
-use Rattle.field.specs.Field as field
+use Rattle.prime_field.specs.Field as field
 use Rattle.ideal.specs.Ideal.{Generated, Multiple, Colon, SameIdeal}
 use Rattle.ideal.specs.Poles.{largest-gap, Poles}
 use Rattle.ideal.specs.Reduced.{Least, IsStar}
@@ -27,7 +28,7 @@ use Rattle.ideal.proofs.Generated.{generated-each, generated-in, products-sourc
 use Rattle.ideal.proofs.Colon.{colon-ideal, colon-same}
 use Rattle.curve.specs.Curve as K
 use Rattle.curve.specs.Curve.{Curve, Coordinate, constant}
-use Rattle.curve.specs.Poles.{poles}
+use Rattle.poles.specs.Poles.{poles}
 use Rattle.divisor.specs.Kind.{Kind, k0, k11, k21, k22, k31, polynomials, IdealOf, IsBasis}
 use Rattle.divisor.proofs.Table.{degree, remaining-poles, kind-by, class-by}
 use Rattle.divisor.proofs.Members.{member, member-monic}
@@ -38,7 +39,6 @@ use Rattle.record.specs.Divisor.{of-kind, number-at}
 use Rattle.record.proofs.Accepted.{Reads, ideal-reads}
 use Rattle.calls.specs.Class.{Ring, Record, Ideal, poles-on, IsNegative}
 use Rattle.worked.specs.Table.{Point}
-use Rattle.worked.proofs.Tests.{both-left, both-right}
 use Rattle.worked.proofs.Vanish.{x, y, coefficients-of, at-xy, constant-number, agree, agree-sound}
 use Rattle.worked.proofs.Basis.{values, values-polynomials}
 use Rattle.worked.proofs.Accepted.{numbers-of}

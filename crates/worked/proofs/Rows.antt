@@ -12,7 +12,8 @@ use native.Mathlib.Omega.{arith}
 use lib.Dec.{T, eqb, eqb→eq}
 use lib.ListN.{length, drop, replicate}
 use lib.IntN.{pos}
-use Rattle.algebra.proofs.Norm.{E, both}
+use Rattle.algebra.proofs.Norm.{E}
+use Rattle.algebra.proofs.Test.{both, both-left, both-right}
 use Rattle.prime.specs.Prime.{Prime}
 use Rattle.ideal.proofs.Every.{Every}
 use Rattle.record.specs.Cause.{Passes, FirstCause}
@@ -26,7 +27,6 @@ use Rattle.calls.proofs.Multiples.{list-single, multiple-add}
 use Rattle.calls.proofs.Exists.{one-passes, two-passes}
 use Rattle.calls.proofs.Determined.{check-curve-determined, check-divisor-determined, sum-determined, double-determined, negative-determined, multiple-determined}
 use Rattle.worked.specs.Table.{Row, point, sum, double, negative, multiple, divisor-refused, divisor-accepted, curve-refused, curve-accepted, Means, Answer}
-use Rattle.worked.proofs.Tests.{both-left, both-right}
 use Rattle.worked.proofs.Accepted.{Smooth, smooth, curve-sound, Singular, singular, singular-sound, Known, known, known-reads, known-record, Spoilt, spoilt, spoilt-sound}
 use Rattle.worked.proofs.Link.{Link, link, sum-sound}
 use Rattle.worked.proofs.Negative.{negated, negative-sound, located, point-sound}

@@ -1,35 +1,17 @@
 -- Tests by computation, and what they show.
---   both-left, both-right, of-either, either   the parts of a test
---   below p f k        f 0, …, f (k − 1) are below p
---   prime p            p is a prime
---   bytes s            every element of s is below 256
+--   below p f k        test: f 0, …, f (k − 1) are below p; below-sound: then they are
+--   prime p            test: p is a prime; prime-sound
+--   bytes s            test: every element of s is below 256; bytes-sound
 use mathlib.Core.Path.{_≡_}
-use mathlib.Core.Bool.{Bool, true, false}
+use mathlib.Core.Bool.{Bool, true}
 use mathlib.Core.Logic.{_⊎_, inl, inr}
 use mathlib.Core.List.{List, [], _∷_}
 use Prim.Native.Nat.{ℕ, zero, suc, _%_, _<_}
 use native.Mathlib.Omega.{arith}
 use lib.Dec.{T, leb, ltb, leb→le, ltb→lt}
-use Rattle.algebra.proofs.Norm.{both}
+use Rattle.algebra.proofs.Test.{both, both-left, both-right, either, of-either, all-below, all-below-at}
 use Rattle.prime.specs.Prime.{Prime}
-use Rattle.curve.proofs.Table.{all-below, all-below-at}
 use Rattle.layout.specs.Layout.{Bytes}
-
-pub both-left : (a b : Bool) → T (both a b) → T a
-both-left true b t = tt
-both-left false b t = t
-
-pub both-right : (a b : Bool) → T (both a b) → T b
-both-right true b t = t
-both-right false b t = absurd t
-
-abbrev pub either : Bool → Bool → Bool
-either true b = true
-either false b = b
-
-pub of-either : (a b : Bool) → T (either a b) → T a ⊎ T b
-of-either true b t = inl tt
-of-either false b t = inr t
 
 abbrev pub below : ℕ → (ℕ → ℕ) → ℕ → Bool
 below p f k = all-below (λ i. ltb (f i) p) k

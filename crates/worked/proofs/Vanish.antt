@@ -8,6 +8,7 @@
 --   vanishes p n e     the test that e is zero; vanish-sound: then it is
 --   agree p n e e′     the test that e and e′ are equal; agree-sound
 --   divide             division of a normal form by the cubic: quotient and rest
+--   Division           its result
 use mathlib.Core.Path.{_≡_, sym, _∙_, ap, ap₂}
 use mathlib.Core.Bool.{Bool}
 use mathlib.Core.List.{[], _∷_}
@@ -20,10 +21,10 @@ use Rattle.algebra.proofs.Norm.{E, var, num, nil, unit, H, z, con, cons, plus, 
 use Rattle.algebra.proofs.Sound.{number, value, same-value}
 use Rattle.algebra.proofs.Solve.{_⊞_, _⊠_, ⊟_}
 use Rattle.field.specs.Residue.{Z, el}
-use Rattle.field.specs.Element.{el-zero, el-one, el-add, el-self}
+use Rattle.field.proofs.Element.{el-zero, el-one, el-add, el-self}
 use Rattle.curve.specs.Curve as K
 use Rattle.curve.specs.Curve.{Curve, Coordinate, constant}
-use Rattle.curve.specs.Coefficient.{constant-zero, constant-one, constant-add}
+use Rattle.curve.proofs.Coefficient.{constant-zero, constant-one, constant-add}
 use Rattle.curve.proofs.Equation.{F-at, curve-equation}
 
 abbrev pub y : E

@@ -1,5 +1,5 @@
 -- `field::neg` meets its contract: 0 stays, and any other number is taken from p.
-use Rattle.field.specs.Inverse.{lt-of-ne}
+use Rattle.field.proofs.Invert.{lt-of-ne}
 use native.Mathlib.Omega.{arith}
 use Rattle.field.proofs.Sums.{negative-zero, negative-more}
 use borrow.Author.Needs.{needs}

@@ -46,7 +46,8 @@ loop-again c =
     let at-loop = at-call .before .before .before .before in
     let a = at-loop .before .before .before .args in (
       omega arith,
-      filled-turn (a .out .now) (at-loop .loop .out) (at-call .write-u32 .last .0) (a .at) (a .ns .now) (at-loop .loop .i) (omega arith) (omega arith) (at-loop .loop .inv .1) (at-call .write-u32 .ensures),
+      filled-turn (a .out .now) (at-loop .loop .out) (at-call .write-u32 .last .0) (a .at) (a .ns .now) (at-loop .loop .i) (omega arith)
+          (omega arith) (at-loop .loop .inv .1) (at-call .write-u32 .ensures),
       at-call .write-u32 .kept .0 ∙ at-loop .loop .inv .2,
     )
 

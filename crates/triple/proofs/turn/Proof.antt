@@ -1,7 +1,7 @@
 -- `triple::turn` meets its contract, by the laws of proofs/Turns.
 use native.Mathlib.Omega.{arith}
 use borrow.Author.Needs.{needs}
-use Rattle.field.specs.Inverse.{lt-of-ne}
+use Rattle.field.proofs.Invert.{lt-of-ne}
 use Rattle.triple.proofs.Turns.{turn-none, clear-asked, turn-clear, monic-asked, swap-asked, turn-swap, turn-fill}
 use Rattle.triple.proofs.turn.Statement.{statement}
 use Rattle.triple.proofs.turn.Tie as tie

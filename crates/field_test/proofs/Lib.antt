@@ -1,2 +1,0 @@
--- The primes that the checks use.
-pub mod Primes

@@ -1,0 +1,2 @@
+-- Pole numbers by coefficients.
+pub mod Monic

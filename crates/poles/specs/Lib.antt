@@ -1,0 +1,2 @@
+-- The pole numbers of the coordinate ring.
+pub mod Poles

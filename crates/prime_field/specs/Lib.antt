@@ -1,0 +1,2 @@
+-- The field of p elements.
+pub mod Field

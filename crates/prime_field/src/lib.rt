@@ -1,0 +1,1 @@
+// Theory only: the field of p elements is in specs/.

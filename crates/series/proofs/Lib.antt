@@ -1,0 +1,4 @@
+-- Laws of power series.
+pub mod Product
+pub mod Bounds
+pub mod Value

@@ -1,0 +1,1 @@
+// Theory only: power series over a commutative ring are in specs/ and proofs/.
