@@ -1,0 +1,115 @@
+-- Tallies of one record more, and their bounds.
+--   one-most           `one-if` is 1 at most
+--   tally-most, typicals-most    no more records have a kind, or are typical, than there are
+--   Bounded, tallies-bounded    so each tally is at most the number of all records
+--   typical-kind       a record of a kind is typical exactly if the kind is 31
+--   tallies-more       the tallies of a list and one record more
+--   lines-tallied      the report by the tallies
+--   more-fits          a tally of one record more fits
+use mathlib.Core.Path.{_≡_, refl, sym, ap, ap₂, _∙_, subst}
+use mathlib.Core.Bool.{Bool, true, false}
+use mathlib.Core.List.{List, [], _∷_, _++_}
+use Prim.Native.Nat.{ℕ, _+_, _<_, _≤_, _^_}
+use native.Mathlib.Omega.{arith}
+use lib.ListN.{length, length-append}
+use lib.Dec.{eqb}
+use mir.Syntax.{w32}
+use mir.Val.{Fits}
+use Rattle.divisor.specs.Kind.{Kind, code}
+use Rattle.layout.specs.Layout.{number2}
+use Rattle.basis.specs.declared.Divisor.{Divisor}
+use Rattle.record.specs.Value.{bytes-of}
+use Rattle.record.proofs.Written.{bytes-of-kind}
+use Rattle.calls.specs.Call.{one-if, tally}
+use Rattle.report.specs.Report.{typical, typicals, count-lines, share-line, sum-line, lines}
+use Rattle.printing.specs.declared.Tallies.{Tallies}
+use Rattle.printing.specs.Tallied.{TalliesOf, SomeTallies, TypicalTest, AddedTo}
+
+pub one-most : (b : Bool) → one-if b ≤ 1
+one-most true = omega arith
+one-most false = omega arith
+
+pub tally-most : (kind : ℕ) (rs : List (List ℕ)) → tally kind rs ≤ length rs
+tally-most kind [] = omega arith
+tally-most kind (r ∷ rs) = omega (arith, one-most (eqb (number2 r 2) kind), tally-most kind rs)
+
+pub typicals-most : (rs : List (List ℕ)) → typicals rs ≤ length rs
+typicals-most [] = omega arith
+typicals-most (r ∷ rs) = omega (arith, one-most (typical r), typicals-most rs)
+
+-- each tally is at most that of all records
+pub record Bounded (t : Tallies) : Type 0 where
+  pub most-0 : t .n0 ≤ t .total
+  pub most-11 : t .n11 ≤ t .total
+  pub most-21 : t .n21 ≤ t .total
+  pub most-22 : t .n22 ≤ t .total
+  pub most-31 : t .n31 ≤ t .total
+  pub most-typical : t .typical ≤ t .total
+
+pub tallies-bounded : {rs : List (List ℕ)} {t : Tallies} → TalliesOf rs t → Bounded t
+tallies-bounded {rs} h =
+    record {
+      most-0 = omega (arith, h .is-0, h .is-total, tally-most 0 rs);
+      most-11 = omega (arith, h .is-11, h .is-total, tally-most 11 rs);
+      most-21 = omega (arith, h .is-21, h .is-total, tally-most 21 rs);
+      most-22 = omega (arith, h .is-22, h .is-total, tally-most 22 rs);
+      most-31 = omega (arith, h .is-31, h .is-total, tally-most 31 rs);
+      most-typical = omega (arith, h .is-typical, h .is-total, typicals-most rs);
+    }
+
+tally-more : (kind : ℕ) (rs : List (List ℕ)) (r : List ℕ) → tally kind (rs ++ r ∷ []) ≡ tally kind rs + one-if (eqb (number2 r 2) kind)
+tally-more kind [] r = omega arith
+tally-more kind (s ∷ rs) r = omega (arith, tally-more kind rs r)
+
+typicals-more : (rs : List (List ℕ)) (r : List ℕ) → typicals (rs ++ r ∷ []) ≡ typicals rs + one-if (typical r)
+typicals-more [] r = omega arith
+typicals-more (s ∷ rs) r = omega (arith, typicals-more rs r)
+
+-- the kind of the record of a divisor by value, by the number of the kind
+kind-read : (κ : Kind) (x : Divisor) → x .kind ≡ code κ → number2 (bytes-of κ x) 2 ≡ x .kind
+kind-read κ x k = bytes-of-kind κ x ∙ sym k
+
+pub typical-kind : (x : Divisor) → TypicalTest x (eqb (x .kind) 31)
+typical-kind x κ k = ap (λ (n : ℕ). eqb n 31) (sym (kind-read κ x k))
+
+-- one tally with one record more
+counts : (x : Divisor) (rs : List (List ℕ)) (κ : Kind) → x .kind ≡ code κ → (kind n m : ℕ) → n ≡ tally kind rs → m ≡ one-if (eqb (x .kind) kind)
+    → n + m ≡ tally kind (rs ++ bytes-of κ x ∷ [])
+counts x rs κ k kind n m e f =
+    ap₂ (λ (i j : ℕ). i + j) e (f ∙ ap (λ (i : ℕ). one-if (eqb i kind)) (sym (kind-read κ x k))) ∙ sym (tally-more kind rs (bytes-of κ x))
+
+module _ (t : Tallies) (x : Divisor) {m0 m11 m21 m22 m31 mt : ℕ} (b : Bool) (typical-is : TypicalTest x b)
+    (e0 : m0 ≡ one-if (eqb (x .kind) 0)) (e11 : m11 ≡ one-if (eqb (x .kind) 11)) (e21 : m21 ≡ one-if (eqb (x .kind) 21))
+    (e22 : m22 ≡ one-if (eqb (x .kind) 22)) (e31 : m31 ≡ one-if (eqb (x .kind) 31)) (et : mt ≡ one-if b) where
+  pub tallies-more : AddedTo t x
+      (record {
+        n0 = t .n0 + m0;
+        n11 = t .n11 + m11;
+        n21 = t .n21 + m21;
+        n22 = t .n22 + m22;
+        n31 = t .n31 + m31;
+        typical = t .typical + mt;
+        total = t .total + 1;
+      })
+  tallies-more rs κ h k =
+      record {
+        is-0 = counts x rs κ k 0 (t .n0) m0 (h .is-0) e0;
+        is-11 = counts x rs κ k 11 (t .n11) m11 (h .is-11) e11;
+        is-21 = counts x rs κ k 21 (t .n21) m21 (h .is-21) e21;
+        is-22 = counts x rs κ k 22 (t .n22) m22 (h .is-22) e22;
+        is-31 = counts x rs κ k 31 (t .n31) m31 (h .is-31) e31;
+        is-typical =
+            ap₂ (λ (i j : ℕ). i + j) (h .is-typical) (et ∙ ap one-if (typical-is κ k)) ∙ sym (typicals-more rs (bytes-of κ x));
+        is-total = omega (arith, h .is-total, length-append rs (bytes-of κ x ∷ []));
+      }
+
+-- the report by the tallies
+pub lines-tallied : (rs : List (List ℕ)) (w : List ℕ) (t : Tallies) → TalliesOf rs t
+    → count-lines (t .n0) (t .n11) (t .n21) (t .n22) (t .n31) ++ share-line (t .typical) (t .total) ++ sum-line w ≡ lines rs w
+unfolding lines
+lines-tallied rs w t h =
+    rw (h .is-0, h .is-11, h .is-21, h .is-22, h .is-31, h .is-typical, h .is-total) refl
+
+-- a tally and 1 or 0 more fit
+pub more-fits : {n m total : ℕ} (b : Bool) → m ≡ one-if b → n ≤ total → total < 4294967295 → Fits w32 (n + m)
+more-fits b e l s = record { fits = omega (arith, one-most b) }

@@ -1,0 +1,35 @@
+-- The tallies of a list of records by value: how many have each kind, how many are typical, how many there are.
+--   TalliesOf rs t       t holds the tallies of the records rs
+--   SomeTallies t        t holds the tallies of some list of records
+--   TypicalTest x b      typical: is the record of the divisor by value x typical
+--   AddedTo t x r        add: r counts one record more than t, that of x
+use mathlib.Core.Path.{_≡_}
+use mathlib.Core.Bool.{Bool}
+use mathlib.Core.List.{List, [], _∷_, _++_}
+use Prim.Native.Nat.{ℕ}
+use lib.ListN.{length}
+use Rattle.divisor.specs.Kind.{Kind, code}
+use Rattle.basis.specs.declared.Divisor.{Divisor}
+use Rattle.record.specs.Value.{bytes-of}
+use Rattle.calls.specs.Call.{tally}
+use Rattle.report.specs.Report.{typical, typicals}
+use Rattle.printing.specs.declared.Tallies.{Tallies}
+
+pub record TalliesOf (rs : List (List ℕ)) (t : Tallies) : Type 0 where
+  pub is-0 : t .n0 ≡ tally 0 rs
+  pub is-11 : t .n11 ≡ tally 11 rs
+  pub is-21 : t .n21 ≡ tally 21 rs
+  pub is-22 : t .n22 ≡ tally 22 rs
+  pub is-31 : t .n31 ≡ tally 31 rs
+  pub is-typical : t .typical ≡ typicals rs
+  pub is-total : t .total ≡ length rs
+
+pub record SomeTallies (t : Tallies) : Type 0 where
+  pub records : List (List ℕ)
+  pub held : TalliesOf records t
+
+abbrev pub TypicalTest : Divisor → Bool → Type 0
+TypicalTest x b = (κ : Kind) → x .kind ≡ code κ → b ≡ typical (bytes-of κ x)
+
+abbrev pub AddedTo : (t : Tallies) → Divisor → Tallies → Type 0
+AddedTo t x r = (rs : List (List ℕ)) (κ : Kind) → TalliesOf rs t → x .kind ≡ code κ → TalliesOf (rs ++ bytes-of κ x ∷ []) r
