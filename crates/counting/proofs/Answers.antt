@@ -1,7 +1,7 @@
 -- What the list sum returns and leaves, for the report.
---   cause-small      a refusal's number is 1 to 11
---   SumGiven, sum-cause, sum-refused, sum-given    the two cases of the answer: a refusal, or a record with the sum
---   sum-fits         the record of a list sum has 4 to 40 bytes
+--   SumGiven c s m out′    a list sum that was not refused: its record is the first m bytes of the buffer
+--   sum-cause        a refusal's number is 11 at most
+--   sum-refused, sum-given    the two cases of the answer: the number of the first cause, or a record with the sum
 use mathlib.Core.Path.{_≡_, refl, sym, ap, _∙_, subst}
 use mathlib.Core.Logic.{_⊎_, inl, inr}
 use mathlib.Core.List.{List, [], _∷_, _++_}
@@ -29,15 +29,18 @@ use Rattle.counting.specs.Contracts.{cause-of}
 list-of-numbered : (c s : List ℕ) → AllNumbered (list-of c s)
 list-of-numbered c s = (numbered-must 11 _ (omega arith), (list-numbered (modulus c) (equation c) s, tt))
 
-pub cause-small : (c s : List ℕ) (n : ℕ) → FirstCause (curve-stages c ++ list-of c s) n → Numbered n
+-- a refusal's number is 1 to 11
+cause-small : (c s : List ℕ) (n : ℕ) → FirstCause (curve-stages c ++ list-of c s) n → Numbered n
 cause-small c s =
     cause-numbered (curve-stages c ++ list-of c s)
     (numbered-append (curve-stages c) (list-of c s) (curve-numbered c) (list-of-numbered c s))
 
-pub sum-fits : (c : List ℕ) (rs : List (List ℕ)) (w : List ℕ) → IsListSum c rs w → (4 ≤ length w) × (length w ≤ room)
+-- the record of a list sum has 4 to 40 bytes
+sum-fits : (c : List ℕ) (rs : List (List ℕ)) (w : List ℕ) → IsListSum c rs w → (4 ≤ length w) × (length w ≤ room)
 sum-fits c [] w e = (omega (arith, ap length e, length-record 0 []), omega (arith, ap length e, length-record 0 []))
 sum-fits c (r ∷ rs) w h = record-fits c w (h .accepted)
 
+-- the two cases of the answer: refused, or a record with the sum
 data SumAnswer (c s : List ℕ) (r : ℤ) (out′ : List ℕ) : Type 0 where
   refused-sum : (n : ℕ) → FirstCause (curve-stages c ++ list-of c s) n → r ≡ minus n → SumAnswer c s r out′
   given-sum : (rs : List (List ℕ)) (w : List ℕ) → Passes (curve-stages c ++ list-of c s) → Listed (modulus c) (equation c) s rs
@@ -57,7 +60,6 @@ cause-minus : (n : ℕ) → cause-of (minus n) ≡ n
 cause-minus zero = refl
 cause-minus (suc n) = refl
 
--- a list sum that was not refused: its record is the first m bytes of the buffer
 pub record SumGiven (c s : List ℕ) (m : ℕ) (out′ : List ℕ) : Type 0 where
   pub records : List (List ℕ)
   pub passes : Passes (curve-stages c ++ list-of c s)

@@ -1,20 +1,16 @@
 -- Tallies of one record more, and their bounds.
---   one-most           `one-if` is 1 at most
 --   tally-most, typicals-most    no more records have a kind, or are typical, than there are
---   Bounded, tallies-bounded    so each tally is at most the number of all records
+--   tallies-bounded    so each tally is at most the number of all records
 --   typical-kind       a record of a kind is typical exactly if the kind is 31
 --   tallies-more       the tallies of a list and one record more
 --   lines-tallied      the report by the tallies
---   more-fits          a tally of one record more fits
 use mathlib.Core.Path.{_≡_, refl, sym, ap, ap₂, _∙_, subst}
 use mathlib.Core.Bool.{Bool, true, false}
 use mathlib.Core.List.{List, [], _∷_, _++_}
-use Prim.Native.Nat.{ℕ, _+_, _<_, _≤_, _^_}
+use Prim.Native.Nat.{ℕ, _+_, _≤_}
 use native.Mathlib.Omega.{arith}
 use lib.ListN.{length, length-append}
 use lib.Dec.{eqb}
-use mir.Syntax.{w32}
-use mir.Val.{Fits}
 use Rattle.divisor.specs.Kind.{Kind, code}
 use Rattle.layout.specs.Layout.{number2}
 use Rattle.basis.specs.declared.Divisor.{Divisor}
@@ -23,9 +19,9 @@ use Rattle.record.proofs.Written.{bytes-of-kind}
 use Rattle.calls.specs.Call.{one-if, tally}
 use Rattle.report.specs.Report.{typical, typicals, count-lines, share-line, sum-line, lines}
 use Rattle.printing.specs.declared.Tallies.{Tallies}
-use Rattle.printing.specs.Tallied.{TalliesOf, SomeTallies, TypicalTest, AddedTo}
+use Rattle.printing.specs.Tallied.{TalliesOf, Bounded, OneIf, TypicalTest, AddedTo}
 
-pub one-most : (b : Bool) → one-if b ≤ 1
+one-most : (b : Bool) → one-if b ≤ 1
 one-most true = omega arith
 one-most false = omega arith
 
@@ -36,15 +32,6 @@ tally-most kind (r ∷ rs) = omega (arith, one-most (eqb (number2 r 2) kind), ta
 pub typicals-most : (rs : List (List ℕ)) → typicals rs ≤ length rs
 typicals-most [] = omega arith
 typicals-most (r ∷ rs) = omega (arith, one-most (typical r), typicals-most rs)
-
--- each tally is at most that of all records
-pub record Bounded (t : Tallies) : Type 0 where
-  pub most-0 : t .n0 ≤ t .total
-  pub most-11 : t .n11 ≤ t .total
-  pub most-21 : t .n21 ≤ t .total
-  pub most-22 : t .n22 ≤ t .total
-  pub most-31 : t .n31 ≤ t .total
-  pub most-typical : t .typical ≤ t .total
 
 pub tallies-bounded : {rs : List (List ℕ)} {t : Tallies} → TalliesOf rs t → Bounded t
 tallies-bounded {rs} h =
@@ -79,8 +66,8 @@ counts x rs κ k kind n m e f =
     ap₂ (λ (i j : ℕ). i + j) e (f ∙ ap (λ (i : ℕ). one-if (eqb i kind)) (sym (kind-read κ x k))) ∙ sym (tally-more kind rs (bytes-of κ x))
 
 module _ (t : Tallies) (x : Divisor) {m0 m11 m21 m22 m31 mt : ℕ} (b : Bool) (typical-is : TypicalTest x b)
-    (e0 : m0 ≡ one-if (eqb (x .kind) 0)) (e11 : m11 ≡ one-if (eqb (x .kind) 11)) (e21 : m21 ≡ one-if (eqb (x .kind) 21))
-    (e22 : m22 ≡ one-if (eqb (x .kind) 22)) (e31 : m31 ≡ one-if (eqb (x .kind) 31)) (et : mt ≡ one-if b) where
+    (e0 : OneIf (eqb (x .kind) 0) m0) (e11 : OneIf (eqb (x .kind) 11) m11) (e21 : OneIf (eqb (x .kind) 21) m21)
+    (e22 : OneIf (eqb (x .kind) 22) m22) (e31 : OneIf (eqb (x .kind) 31) m31) (et : OneIf b mt) where
   pub tallies-more : AddedTo t x
       (record {
         n0 = t .n0 + m0;
@@ -93,13 +80,13 @@ module _ (t : Tallies) (x : Divisor) {m0 m11 m21 m22 m31 mt : ℕ} (b : Bool) (t
       })
   tallies-more rs κ h k =
       record {
-        is-0 = counts x rs κ k 0 (t .n0) m0 (h .is-0) e0;
-        is-11 = counts x rs κ k 11 (t .n11) m11 (h .is-11) e11;
-        is-21 = counts x rs κ k 21 (t .n21) m21 (h .is-21) e21;
-        is-22 = counts x rs κ k 22 (t .n22) m22 (h .is-22) e22;
-        is-31 = counts x rs κ k 31 (t .n31) m31 (h .is-31) e31;
+        is-0 = counts x rs κ k 0 (t .n0) m0 (h .is-0) (e0 .is);
+        is-11 = counts x rs κ k 11 (t .n11) m11 (h .is-11) (e11 .is);
+        is-21 = counts x rs κ k 21 (t .n21) m21 (h .is-21) (e21 .is);
+        is-22 = counts x rs κ k 22 (t .n22) m22 (h .is-22) (e22 .is);
+        is-31 = counts x rs κ k 31 (t .n31) m31 (h .is-31) (e31 .is);
         is-typical =
-            ap₂ (λ (i j : ℕ). i + j) (h .is-typical) (et ∙ ap one-if (typical-is κ k)) ∙ sym (typicals-more rs (bytes-of κ x));
+            ap₂ (λ (i j : ℕ). i + j) (h .is-typical) (et .is ∙ ap one-if (typical-is κ k)) ∙ sym (typicals-more rs (bytes-of κ x));
         is-total = omega (arith, h .is-total, length-append rs (bytes-of κ x ∷ []));
       }
 
@@ -109,7 +96,3 @@ pub lines-tallied : (rs : List (List ℕ)) (w : List ℕ) (t : Tallies) → Tall
 unfolding lines
 lines-tallied rs w t h =
     rw (h .is-0, h .is-11, h .is-21, h .is-22, h .is-31, h .is-typical, h .is-total) refl
-
--- a tally and 1 or 0 more fit
-pub more-fits : {n m total : ℕ} (b : Bool) → m ≡ one-if b → n ≤ total → total < 4294967295 → Fits w32 (n + m)
-more-fits b e l s = record { fits = omega (arith, one-most b) }

@@ -1,17 +1,18 @@
 -- The tallies of a list of records by value: how many have each kind, how many are typical, how many there are.
 --   TalliesOf rs t       t holds the tallies of the records rs
---   SomeTallies t        t holds the tallies of some list of records
+--   Bounded t            each tally is at most that of all records
+--   OneIf b r            one_if, of_kind: r is 1 if b holds, else 0
 --   TypicalTest x b      typical: is the record of the divisor by value x typical
 --   AddedTo t x r        add: r counts one record more than t, that of x
 use mathlib.Core.Path.{_≡_}
 use mathlib.Core.Bool.{Bool}
 use mathlib.Core.List.{List, [], _∷_, _++_}
-use Prim.Native.Nat.{ℕ}
+use Prim.Native.Nat.{ℕ, _≤_}
 use lib.ListN.{length}
 use Rattle.divisor.specs.Kind.{Kind, code}
 use Rattle.basis.specs.declared.Divisor.{Divisor}
 use Rattle.record.specs.Value.{bytes-of}
-use Rattle.calls.specs.Call.{tally}
+use Rattle.calls.specs.Call.{one-if, tally}
 use Rattle.report.specs.Report.{typical, typicals}
 use Rattle.printing.specs.declared.Tallies.{Tallies}
 
@@ -24,9 +25,17 @@ pub record TalliesOf (rs : List (List ℕ)) (t : Tallies) : Type 0 where
   pub is-typical : t .typical ≡ typicals rs
   pub is-total : t .total ≡ length rs
 
-pub record SomeTallies (t : Tallies) : Type 0 where
-  pub records : List (List ℕ)
-  pub held : TalliesOf records t
+pub record Bounded (t : Tallies) : Type 0 where
+  pub most-0 : t .n0 ≤ t .total
+  pub most-11 : t .n11 ≤ t .total
+  pub most-21 : t .n21 ≤ t .total
+  pub most-22 : t .n22 ≤ t .total
+  pub most-31 : t .n31 ≤ t .total
+  pub most-typical : t .typical ≤ t .total
+
+pub record OneIf (b : Bool) (r : ℕ) : Type 0 where
+  pub is : r ≡ one-if b
+  pub small : r ≤ 1
 
 abbrev pub TypicalTest : Divisor → Bool → Type 0
 TypicalTest x b = (κ : Kind) → x .kind ≡ code κ → b ≡ typical (bytes-of κ x)

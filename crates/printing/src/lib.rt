@@ -10,9 +10,8 @@ ghost use Rattle.text.specs.Ascii.{ascii};
 ghost use Rattle.text.specs.Decimal.{decimal};
 ghost use Rattle.text.specs.Put.{Placed};
 ghost use Rattle.layout.specs.Layout.{numbers};
-ghost use Rattle.calls.specs.Call.{one-if};
 ghost use Rattle.report.specs.Report.{rounded, per-cent, share-line, count-line, count-lines, spaced, sum-line, refused-line};
-ghost use Rattle.printing.specs.Tallied.{TalliesOf, SomeTallies, TypicalTest, AddedTo};
+ghost use Rattle.printing.specs.Tallied.{TalliesOf, Bounded, OneIf, TypicalTest, AddedTo};
 ghost use Rattle.printing.specs.Contracts.{AllPut};
 
 // How many records of a list have each of the five kinds, how many are typical, and how many there are.
@@ -50,7 +49,7 @@ fn typical(x: Divisor) -> bool
 
 // 1 for true, 0 for false.
 fn one_if(b: bool) -> u32
-    ensures { λ r. ⌜ r ≡ one-if b ⌝ }
+    ensures { λ r. ⌜ OneIf b r ⌝ }
 {
     if b {
         return 1;
@@ -60,14 +59,14 @@ fn one_if(b: bool) -> u32
 
 // 1 for a divisor of the kind, 0 for another.
 fn of_kind(x: Divisor, kind: u32) -> u32
-    ensures { λ r. ⌜ r ≡ one-if (eqb (x .kind) kind) ⌝ }
+    ensures { λ r. ⌜ OneIf (eqb (x .kind) kind) r ⌝ }
 {
     one_if(x.kind == kind)
 }
 
 // The tallies with one record more, that of x.
 pub fn add(t: Tallies, x: Divisor) -> Tallies
-    requires { ⌜ SomeTallies t ⌝ }
+    requires { ⌜ Bounded t ⌝ }
     requires { ⌜ t .total < 4294967295 ⌝ }
     ensures { λ r. ⌜ AddedTo t x r ⌝ }
 {

@@ -1,7 +1,5 @@
 -- `printing::add` meets its contract: each tally is at most the number of all records, so one more fits.
-use Prim.Native.Nat.{ℕ}
-use lib.Dec.{eqb}
-use Rattle.printing.proofs.More.{Bounded, tallies-bounded, more-fits, tallies-more}
+use Rattle.printing.proofs.More.{tallies-more}
 use borrow.Author.Needs.{needs}
 use Rattle.printing.proofs.add.Statement.{statement}
 use Rattle.printing.proofs.add.Tie as tie
@@ -10,41 +8,31 @@ of-kind-requires : tie.Need-of-kind-requires
 of-kind-requires c κs = search needs
 
 add-t4 : tie.Need-add-t4
-add-t4 c =
-    let start = c .before .before in
-    more-fits (eqb (start .args .x .kind) 0) (c .before .of-kind .ensures) (tallies-bounded (start .pre .0 .held) .most-0) (start .pre .1)
+add-t4 c = search needs
 
 of-kind-requires-2 : tie.Need-of-kind-requires-2
 of-kind-requires-2 c κs = search needs
 
 add-t6 : tie.Need-add-t6
-add-t6 c =
-    let start = c .before .before .before .before in
-    more-fits (eqb (start .args .x .kind) 11) (c .before .of-kind2 .ensures) (tallies-bounded (start .pre .0 .held) .most-11) (start .pre .1)
+add-t6 c = search needs
 
 of-kind-requires-3 : tie.Need-of-kind-requires-3
 of-kind-requires-3 c κs = search needs
 
 add-t8 : tie.Need-add-t8
-add-t8 c =
-    let start = c .before .before .before .before .before .before in
-    more-fits (eqb (start .args .x .kind) 21) (c .before .of-kind3 .ensures) (tallies-bounded (start .pre .0 .held) .most-21) (start .pre .1)
+add-t8 c = search needs
 
 of-kind-requires-4 : tie.Need-of-kind-requires-4
 of-kind-requires-4 c κs = search needs
 
 add-t10 : tie.Need-add-t10
-add-t10 c =
-    let start = c .before .before .before .before .before .before .before .before in
-    more-fits (eqb (start .args .x .kind) 22) (c .before .of-kind4 .ensures) (tallies-bounded (start .pre .0 .held) .most-22) (start .pre .1)
+add-t10 c = search needs
 
 of-kind-requires-5 : tie.Need-of-kind-requires-5
 of-kind-requires-5 c κs = search needs
 
 add-t12 : tie.Need-add-t12
-add-t12 c =
-    let start = c .before .before .before .before .before .before .before .before .before .before in
-    more-fits (eqb (start .args .x .kind) 31) (c .before .of-kind5 .ensures) (tallies-bounded (start .pre .0 .held) .most-31) (start .pre .1)
+add-t12 c = search needs
 
 typical-requires : tie.Need-typical-requires
 typical-requires c κs = search needs
@@ -53,9 +41,7 @@ one-if-requires : tie.Need-one-if-requires
 one-if-requires c κs = search needs
 
 add-t15 : tie.Need-add-t15
-add-t15 c =
-    let start = c .before .before .before .before .before .before .before .before .before .before .before .before .before in
-    more-fits (c .before .before .typical .result) (c .before .one-if .ensures) (tallies-bounded (start .pre .0 .held) .most-typical) (start .pre .1)
+add-t15 c = search needs
 
 add-t16 : tie.Need-add-t16
 add-t16 c = search needs

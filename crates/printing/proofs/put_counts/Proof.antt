@@ -43,10 +43,10 @@ returns : tie.Need-returns
 unfolding count-lines
 returns c =
     let l31 = c .before .before in
-    let l22 = c .before .before .before .before .before .before .before in
-    let l21 = c .before .before .before .before .before .before .before .before .before .before .before .before in
-    let l11 = c .before .before .before .before .before .before .before .before .before .before .before .before .before .before .before .before .before in
-    let l0 = c .before .before .before .before .before .before .before .before .before .before .before .before .before .before .before .before .before .before .before .before .before .before in
+    let l22 = l31 .before .before .before .before .before in
+    let l21 = l22 .before .before .before .before .before in
+    let l11 = l21 .before .before .before .before .before in
+    let l0 = l11 .before .before .before .before .before in
     record {
       put =
           put-then (omega arith)

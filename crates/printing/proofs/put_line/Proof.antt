@@ -22,8 +22,8 @@ returns : tie.Need-returns
 unfolding count-line
 returns c =
     let third = c .before .before in
-    let second = c .before .before .before .before .before .before in
-    let first = c .before .before .before .before .before .before .before .before .before .before in
+    let second = third .before .before .before .before in
+    let first = second .before .before .before .before in
     record {
       put = put-then (omega arith) (put-then (omega arith) (first .put-bytes .ensures) (second .put-number .ensures .put)) (third .put-byte .ensures);
       within = omega arith;

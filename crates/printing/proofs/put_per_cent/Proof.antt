@@ -23,8 +23,8 @@ returns : tie.Need-returns
 unfolding per-cent two-digits
 returns c =
     let third = c .before .before in
-    let second = c .before .before .before .before .before .before in
-    let first = c .before .before .before .before .before .before .before .before .before .before in
+    let second = third .before .before .before .before in
+    let first = second .before .before .before .before in
     record {
       put = put-then (omega arith) (put-then (omega arith) (first .put-number .ensures .put) (second .put-byte .ensures)) (third .put-two-digits .ensures);
       within = omega (arith, third .put-two-digits .ensures .next);

@@ -17,7 +17,7 @@ same-length c = search needs
 returns : tie.Need-returns
 returns c =
     let second = c .before .before in
-    let first = c .before .before .before .before .before .before in
+    let first = second .before .before .before .before in
     record {
       put = put-then (omega arith) (first .put-byte .ensures) (second .put-number .ensures .put);
       within = omega arith;

@@ -34,12 +34,12 @@ returns : tie.Need-returns
 unfolding sum-line
 returns c =
     let fourth = c .before .before in
-    let third = c .before .before .before .before .before .before in
-    let second = c .before .before .before .before .before .before .before .before .before .before in
-    let first = c .before .before .before .before .before .before .before .before .before .before .before .before .before .before in
-    let kind = c .before .before .before .before .before .before .before .before .before .before .before .before .before .before .before .before .before .read-u16 .ensures .is in
-    let start = c .before .before .before .before .before .before .before .before .before .before .before .before .before .before .before .before .before .before .before .before in
-    rw (← kind)
+    let third = fourth .before .before .before .before in
+    let second = third .before .before .before .before in
+    let first = second .before .before .before .before in
+    let read = first .before .before .before in
+    let start = read .before .before .before in
+    rw (← read .read-u16 .ensures .is)
     (record {
       put =
           put-then (omega (arith, start .pre))
