@@ -1,6 +1,7 @@
 -- Tallies of one record more, and their bounds.
 --   tally-most, typicals-most    no more records have a kind, or are typical, than there are
 --   tallies-bounded    so each tally is at most the number of all records
+--   record-given       an accepted record is that of the divisor by value that was read
 --   typical-kind       a record of a kind is typical exactly if the kind is 31
 --   tallies-more       the tallies of a list and one record more
 --   lines-tallied      the report by the tallies
@@ -11,15 +12,16 @@ use Prim.Native.Nat.{ℕ, _+_, _≤_}
 use native.Mathlib.Omega.{arith}
 use lib.ListN.{length, length-append}
 use lib.Dec.{eqb}
-use Rattle.divisor.specs.Kind.{Kind, code}
+use Rattle.field.specs.Residue.{Z}
+use Rattle.curve.specs.Curve.{Curve}
 use Rattle.layout.specs.Layout.{number2}
 use Rattle.basis.specs.declared.Divisor.{Divisor}
-use Rattle.record.specs.Value.{bytes-of}
+use Rattle.record.specs.Reading.{DivisorGiven}
 use Rattle.record.proofs.Written.{bytes-of-kind}
 use Rattle.calls.specs.Call.{one-if, tally}
 use Rattle.report.specs.Report.{typical, typicals, count-lines, share-line, sum-line, lines}
 use Rattle.printing.specs.declared.Tallies.{Tallies}
-use Rattle.printing.specs.Tallied.{TalliesOf, Bounded, OneIf, TypicalTest, AddedTo}
+use Rattle.printing.specs.Tallied.{TalliesOf, Bounded, OneIf, RecordOf, TypicalTest, AddedTo}
 
 one-most : (b : Bool) → one-if b ≤ 1
 one-most true = omega arith
@@ -52,18 +54,27 @@ typicals-more : (rs : List (List ℕ)) (r : List ℕ) → typicals (rs ++ r ∷ 
 typicals-more [] r = omega arith
 typicals-more (s ∷ rs) r = omega (arith, typicals-more rs r)
 
--- the kind of the record of a divisor by value, by the number of the kind
-kind-read : (κ : Kind) (x : Divisor) → x .kind ≡ code κ → number2 (bytes-of κ x) 2 ≡ x .kind
-kind-read κ x k = bytes-of-kind κ x ∙ sym k
+-- the record of an accepted divisor by value
+pub record-given : (p : ℕ) (C : Curve (Z p)) → p ≤ 4294967296 → {s : List ℕ} {x : Divisor} → DivisorGiven p C s x → RecordOf x s
+record-given p C fits g =
+    record {
+      kind = g .kind;
+      is-kind = g .based .shaped .kind;
+      words = λ i. omega (arith, g .based .shaped .below i);
+      bytes = g .bytes;
+    }
+
+module _ {x : Divisor} {r : List ℕ} (h : RecordOf x r) where
+  kind-read : number2 r 2 ≡ x .kind
+  kind-read = ap (λ (s : List ℕ). number2 s 2) (sym (h .bytes)) ∙ bytes-of-kind (h .kind) x ∙ sym (h .is-kind)
+
+  -- one tally with one record more
+  tally-of : (kind : ℕ) (rs : List (List ℕ)) {n m : ℕ} → n ≡ tally kind rs → OneIf (eqb (x .kind) kind) m → n + m ≡ tally kind (rs ++ r ∷ [])
+  tally-of kind rs e f =
+      ap₂ (λ (i j : ℕ). i + j) e (f .is ∙ ap (λ (i : ℕ). one-if (eqb i kind)) (sym kind-read)) ∙ sym (tally-more kind rs r)
 
 pub typical-kind : (x : Divisor) → TypicalTest x (eqb (x .kind) 31)
-typical-kind x κ k = ap (λ (n : ℕ). eqb n 31) (sym (kind-read κ x k))
-
--- one tally with one record more
-counts : (x : Divisor) (rs : List (List ℕ)) (κ : Kind) → x .kind ≡ code κ → (kind n m : ℕ) → n ≡ tally kind rs → m ≡ one-if (eqb (x .kind) kind)
-    → n + m ≡ tally kind (rs ++ bytes-of κ x ∷ [])
-counts x rs κ k kind n m e f =
-    ap₂ (λ (i j : ℕ). i + j) e (f ∙ ap (λ (i : ℕ). one-if (eqb i kind)) (sym (kind-read κ x k))) ∙ sym (tally-more kind rs (bytes-of κ x))
+typical-kind x r h = ap (λ (n : ℕ). eqb n 31) (sym (kind-read h))
 
 module _ (t : Tallies) (x : Divisor) {m0 m11 m21 m22 m31 mt : ℕ} (b : Bool) (typical-is : TypicalTest x b)
     (e0 : OneIf (eqb (x .kind) 0) m0) (e11 : OneIf (eqb (x .kind) 11) m11) (e21 : OneIf (eqb (x .kind) 21) m21)
@@ -78,16 +89,15 @@ module _ (t : Tallies) (x : Divisor) {m0 m11 m21 m22 m31 mt : ℕ} (b : Bool) (t
         typical = t .typical + mt;
         total = t .total + 1;
       })
-  tallies-more rs κ h k =
+  tallies-more rs r h k =
       record {
-        is-0 = counts x rs κ k 0 (t .n0) m0 (h .is-0) (e0 .is);
-        is-11 = counts x rs κ k 11 (t .n11) m11 (h .is-11) (e11 .is);
-        is-21 = counts x rs κ k 21 (t .n21) m21 (h .is-21) (e21 .is);
-        is-22 = counts x rs κ k 22 (t .n22) m22 (h .is-22) (e22 .is);
-        is-31 = counts x rs κ k 31 (t .n31) m31 (h .is-31) (e31 .is);
-        is-typical =
-            ap₂ (λ (i j : ℕ). i + j) (h .is-typical) (et .is ∙ ap one-if (typical-is κ k)) ∙ sym (typicals-more rs (bytes-of κ x));
-        is-total = omega (arith, h .is-total, length-append rs (bytes-of κ x ∷ []));
+        is-0 = tally-of k 0 rs (h .is-0) e0;
+        is-11 = tally-of k 11 rs (h .is-11) e11;
+        is-21 = tally-of k 21 rs (h .is-21) e21;
+        is-22 = tally-of k 22 rs (h .is-22) e22;
+        is-31 = tally-of k 31 rs (h .is-31) e31;
+        is-typical = ap₂ (λ (i j : ℕ). i + j) (h .is-typical) (et .is ∙ ap one-if (typical-is r k)) ∙ sym (typicals-more rs r);
+        is-total = omega (arith, h .is-total, length-append rs (r ∷ []));
       }
 
 -- the report by the tallies

@@ -2,14 +2,17 @@
 --   TalliesOf rs t       t holds the tallies of the records rs
 --   Bounded t            each tally is at most that of all records
 --   OneIf b r            one_if, of_kind: r is 1 if b holds, else 0
---   TypicalTest x b      typical: is the record of the divisor by value x typical
---   AddedTo t x r        add: r counts one record more than t, that of x
+--   RecordOf x r         r is the record of the divisor by value x, whose numbers are below 2³²
+--   TypicalTest x b      typical: is the record of x typical
+--   AddedTo t x t′       add: t′ counts one record more than t, that of x
 use mathlib.Core.Path.{_≡_}
 use mathlib.Core.Bool.{Bool}
 use mathlib.Core.List.{List, [], _∷_, _++_}
 use Prim.Native.Nat.{ℕ, _≤_}
 use lib.ListN.{length}
 use Rattle.divisor.specs.Kind.{Kind, code}
+use Rattle.layout.specs.Layout.{Words}
+use Rattle.basis.specs.Divisor.{numbers}
 use Rattle.basis.specs.declared.Divisor.{Divisor}
 use Rattle.record.specs.Value.{bytes-of}
 use Rattle.calls.specs.Call.{one-if, tally}
@@ -37,8 +40,14 @@ pub record OneIf (b : Bool) (r : ℕ) : Type 0 where
   pub is : r ≡ one-if b
   pub small : r ≤ 1
 
+pub record RecordOf (x : Divisor) (r : List ℕ) : Type 0 where
+  pub kind : Kind
+  pub is-kind : x .kind ≡ code kind
+  pub words : Words (numbers x)
+  pub bytes : bytes-of kind x ≡ r
+
 abbrev pub TypicalTest : Divisor → Bool → Type 0
-TypicalTest x b = (κ : Kind) → x .kind ≡ code κ → b ≡ typical (bytes-of κ x)
+TypicalTest x b = (r : List ℕ) → RecordOf x r → b ≡ typical r
 
 abbrev pub AddedTo : (t : Tallies) → Divisor → Tallies → Type 0
-AddedTo t x r = (rs : List (List ℕ)) (κ : Kind) → TalliesOf rs t → x .kind ≡ code κ → TalliesOf (rs ++ bytes-of κ x ∷ []) r
+AddedTo t x t′ = (rs : List (List ℕ)) (r : List ℕ) → TalliesOf rs t → RecordOf x r → TalliesOf (rs ++ r ∷ []) t′
