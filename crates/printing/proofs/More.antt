@@ -21,7 +21,7 @@ use Rattle.record.proofs.Written.{bytes-of-kind}
 use Rattle.calls.specs.Call.{one-if, tally}
 use Rattle.report.specs.Report.{typical, typicals, count-lines, share-line, sum-line, lines}
 use Rattle.printing.specs.declared.Tallies.{Tallies}
-use Rattle.printing.specs.Tallied.{TalliesOf, Bounded, OneIf, RecordOf, TypicalTest, AddedTo}
+use Rattle.printing.specs.Tallied.{TalliesOf, Bounded, OneIf, HasRecord, TypicalTest, AddedTo}
 
 one-most : (b : Bool) → one-if b ≤ 1
 one-most true = omega arith
@@ -55,7 +55,7 @@ typicals-more [] r = omega arith
 typicals-more (s ∷ rs) r = omega (arith, typicals-more rs r)
 
 -- the record of an accepted divisor by value
-pub record-given : (p : ℕ) (C : Curve (Z p)) → p ≤ 4294967296 → {s : List ℕ} {x : Divisor} → DivisorGiven p C s x → RecordOf x s
+pub record-given : (p : ℕ) (C : Curve (Z p)) → p ≤ 4294967296 → {s : List ℕ} {x : Divisor} → DivisorGiven p C s x → HasRecord x s
 record-given p C fits g =
     record {
       kind = g .kind;
@@ -64,7 +64,7 @@ record-given p C fits g =
       bytes = g .bytes;
     }
 
-module _ {x : Divisor} {r : List ℕ} (h : RecordOf x r) where
+module _ {x : Divisor} {r : List ℕ} (h : HasRecord x r) where
   kind-read : number2 r 2 ≡ x .kind
   kind-read = ap (λ (s : List ℕ). number2 s 2) (sym (h .bytes)) ∙ bytes-of-kind (h .kind) x ∙ sym (h .is-kind)
 

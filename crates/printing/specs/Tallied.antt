@@ -2,7 +2,7 @@
 --   TalliesOf rs t       t holds the tallies of the records rs
 --   Bounded t            each tally is at most that of all records
 --   OneIf b r            one_if, of_kind: r is 1 if b holds, else 0
---   RecordOf x r         r is the record of the divisor by value x, whose numbers are below 2³²
+--   HasRecord x r        r is the record of the divisor by value x, whose numbers are below 2³²
 --   TypicalTest x b      typical: is the record of x typical
 --   AddedTo t x t′       add: t′ counts one record more than t, that of x
 use mathlib.Core.Path.{_≡_}
@@ -40,14 +40,14 @@ pub record OneIf (b : Bool) (r : ℕ) : Type 0 where
   pub is : r ≡ one-if b
   pub small : r ≤ 1
 
-pub record RecordOf (x : Divisor) (r : List ℕ) : Type 0 where
+pub record HasRecord (x : Divisor) (r : List ℕ) : Type 0 where
   pub kind : Kind
   pub is-kind : x .kind ≡ code kind
   pub words : Words (numbers x)
   pub bytes : bytes-of kind x ≡ r
 
 abbrev pub TypicalTest : Divisor → Bool → Type 0
-TypicalTest x b = (r : List ℕ) → RecordOf x r → b ≡ typical r
+TypicalTest x b = (r : List ℕ) → HasRecord x r → b ≡ typical r
 
 abbrev pub AddedTo : (t : Tallies) → Divisor → Tallies → Type 0
-AddedTo t x t′ = (rs : List (List ℕ)) (r : List ℕ) → TalliesOf rs t → RecordOf x r → TalliesOf (rs ++ r ∷ []) t′
+AddedTo t x t′ = (rs : List (List ℕ)) (r : List ℕ) → TalliesOf rs t → HasRecord x r → TalliesOf (rs ++ r ∷ []) t′
