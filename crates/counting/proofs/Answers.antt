@@ -20,7 +20,7 @@ use Rattle.record.specs.Listed.{Listed}
 use Rattle.record.proofs.Cause.{Numbered, AllNumbered, numbered-must, numbered-append, cause-numbered, passes-append, first-append}
 use Rattle.record.proofs.Lists.{curve-numbered, list-numbered}
 use Rattle.calls.specs.Answer.{minus, refused, written}
-use Rattle.calls.specs.Class.{IsListSum, zero-record}
+use Rattle.calls.specs.Class.{IsListSum}
 use Rattle.calls.specs.Call.{list-of, room, buffer, ListSum}
 use Rattle.calls.specs.Pool.{amount}
 use Rattle.calls.proofs.Answers.{record-fits}

@@ -8,13 +8,12 @@ use mathlib.Core.List.{List, [], _∷_, _++_}
 use Prim.Native.Nat.{ℕ, zero, suc, _+_, _≤_}
 use native.Mathlib.Omega.{arith}
 use lib.ListN.{length}
-use lib.IntN.{ℤ, pos}
+use lib.IntN.{ℤ}
 use lib.Dec.{eqb}
 use Rattle.field.specs.Residue.{Z}
 use Rattle.curve.specs.Curve.{Curve}
 use Rattle.divisor.specs.Kind.{Kind, k0, k11, k21, k22, k31, code}
 use Rattle.layout.specs.Layout.{number2}
-use Rattle.record.specs.Cause.{Passes}
 use Rattle.record.specs.Curve.{modulus, equation, curve-stages}
 use Rattle.record.specs.Listed.{AllAccepted, Listed, list-limit}
 use Rattle.record.proofs.Cause.{passes-refuses, passes-append}
@@ -24,7 +23,6 @@ use Rattle.calls.specs.Pool.{amount}
 use Rattle.calls.specs.Call.{list-of, one-if, tally, Count}
 use Rattle.calls.proofs.Answers.{list-of-sound}
 use Rattle.report.specs.Report.{typicals}
-use Rattle.printing.specs.Tallied.{TalliesOf}
 use Rattle.printing.proofs.More.{tally-most}
 use Rattle.counting.specs.Contracts.{KindCount, ListTallies}
 

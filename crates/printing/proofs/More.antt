@@ -5,7 +5,7 @@
 --   typical-kind       a record of a kind is typical exactly if the kind is 31
 --   tallies-more       the tallies of a list and one record more
 --   lines-tallied      the report by the tallies
-use mathlib.Core.Path.{_≡_, refl, sym, ap, ap₂, _∙_, subst}
+use mathlib.Core.Path.{_≡_, refl, sym, ap, ap₂, _∙_}
 use mathlib.Core.Bool.{Bool, true, false}
 use mathlib.Core.List.{List, [], _∷_, _++_}
 use Prim.Native.Nat.{ℕ, _+_, _≤_}

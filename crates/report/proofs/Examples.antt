@@ -4,7 +4,7 @@
 --   typical-31, not-typical-22    a record of kind 31 is typical, one of kind 22 is not
 use mathlib.Core.Path.{_≡_, refl}
 use mathlib.Core.Bool.{true, false}
-use mathlib.Core.List.{List, [], _∷_, _++_}
+use mathlib.Core.List.{[], _∷_}
 use Rattle.text.specs.Ascii.{ascii}
 use Rattle.text.specs.Decimal.{decimal, decimal-upto, two-digits}
 use Rattle.layout.specs.Layout.{number2, number4, numbers, bytes2, bytes4, all-bytes4, record-bytes}

@@ -1,10 +1,8 @@
 -- `counting::amount` meets its contract.
-use mathlib.Core.Path.{_≡_, ap, _∙_, sym, subst}
-use mathlib.Core.Bool.{Bool, true, false}
+use mathlib.Core.Path.{ap, _∙_, sym}
 use lib.IntN.{ℤ, pos}
 use lib.Signed.{ltZ}
 use mir.Syntax.{w32}
-use mir.Val.{toZ, ofZ}
 use mir.ValLaws.{toZ-ofZ}
 use Rattle.counting.proofs.Signed.{refused-amount, given-amount}
 use Rattle.counting.proofs.amount.Statement.{statement}

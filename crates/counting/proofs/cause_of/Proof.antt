@@ -1,9 +1,8 @@
 -- `counting::cause_of` meets its contract.
-use mathlib.Core.Path.{_≡_, ap, _∙_, sym, subst}
-use lib.IntN.{ℤ, pos, _-ℤ_, natAbs}
+use mathlib.Core.Path.{ap, _∙_, sym}
+use lib.IntN.{ℤ, pos, _-ℤ_}
 use lib.Signed.{ltZ}
 use mir.Syntax.{w32}
-use mir.Val.{toZ, ofZ}
 use mir.ValLaws.{toZ-ofZ}
 use Rattle.counting.proofs.Signed.{refused-cause, given-amount}
 use Rattle.counting.proofs.cause_of.Statement.{statement}

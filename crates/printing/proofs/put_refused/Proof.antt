@@ -1,5 +1,4 @@
 -- `printing::put_refused` meets its contract: one line.
-use native.Mathlib.Omega.{arith}
 use Rattle.report.specs.Report.{refused-line}
 use borrow.Author.Needs.{needs}
 use Rattle.printing.proofs.put_refused.Statement.{statement}
