@@ -17,7 +17,7 @@ use Rattle.record.specs.Listed.{list-limit}
 use Rattle.record.proofs.Cause.{passes-append, first-append}
 use Rattle.calls.specs.Call.{list-of}
 use Rattle.report.specs.Report.{curve-part, list-part, ReportOn, refused, counted, Report}
-use Rattle.report.specs.Contracts.{enough, ReadFrom, ReportsRead}
+use Rattle.report.specs.Input.{enough, ReadFrom, ReportsRead}
 
 -- A list that is too long is refused with 11, whatever its bytes are.
 module _ (c s s′ : List ℕ) (h : list-limit < length s) (h′ : list-limit < length s′) where

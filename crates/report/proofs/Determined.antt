@@ -14,7 +14,7 @@ use Rattle.calls.specs.Call.{list-of}
 use Rattle.calls.proofs.Answers.{list-of-sound}
 use Rattle.calls.proofs.Multiples.{list-one}
 use Rattle.report.specs.Report.{ReportOn, refused, counted, Report, curve-part, list-part, lines, refused-line}
-use Rattle.report.specs.Contracts.{ReadFrom, ReportsRead}
+use Rattle.report.specs.Input.{ReadFrom, ReportsRead}
 use Rattle.report.proofs.Cut.{some-input}
 
 module _ (c s text text′ : List ℕ) where

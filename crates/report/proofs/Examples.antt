@@ -1,11 +1,15 @@
--- Lines that document 01 gives, computed.
+-- Lines that document 01 gives, and which records are typical, computed.
+--   one-of-32, none-of-3, all-typical, empty-list    lines of the share
+--   kinds-of-the-example, sum-of-the-example, zero-sum, refused-11    the other lines
+--   typical-31, not-typical-22    a record of kind 31 is typical, one of kind 22 is not
 use mathlib.Core.Path.{_≡_, refl}
-use mathlib.Core.List.{List, [], _∷_, _++_}
+use mathlib.Core.Bool.{true, false}
+use mathlib.Core.List.{[], _∷_}
 use Rattle.text.specs.Ascii.{ascii}
 use Rattle.text.specs.Decimal.{decimal, decimal-upto, two-digits}
 use Rattle.layout.specs.Layout.{number2, number4, numbers, bytes2, bytes4, all-bytes4, record-bytes}
 use Rattle.calls.specs.Class.{zero-record}
-use Rattle.report.specs.Report.{per-cent, share-line, count-line, count-lines, spaced, sum-line, refused-line}
+use Rattle.report.specs.Report.{typical, per-cent, share-line, count-line, count-lines, spaced, sum-line, refused-line}
 
 -- "One typical record among 32 gives `share 3.13`."
 pub one-of-32 : share-line 1 32 ≡ ascii "share 3.13\n"
@@ -39,3 +43,12 @@ zero-sum = refl
 pub refused-11 : refused-line 11 ≡ ascii "refused 11\n"
 unfolding refused-line count-line decimal decimal-upto
 refused-11 = refl
+
+-- f2 of the record is 4
+pub typical-31 : typical (record-bytes 31 (4 ∷ 2 ∷ 4 ∷ 0 ∷ 3 ∷ 0 ∷ 3 ∷ 0 ∷ 4 ∷ [])) ≡ true
+unfolding number2 number4 record-bytes bytes2 bytes4 all-bytes4
+typical-31 = refl
+
+pub not-typical-22 : typical (record-bytes 22 (0 ∷ 1 ∷ 0 ∷ [])) ≡ false
+unfolding number2 number4 record-bytes bytes2 bytes4 all-bytes4
+not-typical-22 = refl

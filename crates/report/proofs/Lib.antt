@@ -1,8 +1,4 @@
--- From what the calls return to what is printed.
-pub mod Counts
-pub mod Answers
-pub mod Determined
+-- What is printed is one text for each input, with document 01's examples.
 pub mod Cut
-pub mod Puts
-pub mod Signed
+pub mod Determined
 pub mod Examples

@@ -1,3 +1,3 @@
 -- What the counting program prints.
 pub mod Report
-pub mod Contracts
+pub mod Input

@@ -4,7 +4,7 @@ ghost use Prim.Native.Nat.{_≤_};
 // Prints the report on an input.
 fn print(input: &[u8]) {
     let mut out = [0u8; 256];
-    let text = report::report(input, &mut out);
+    let text = counting::report(input, &mut out);
     io::write_all(1, text);
 }
 

@@ -1,0 +1,201 @@
+// The tallies of the records of a list by value, and the lines of a report put into a lent buffer; crate report, specs/Report.antt, says what
+// the lines are. Each function that puts something writes from place `at` on and returns the place behind it.
+use basis::Divisor;
+ghost use mathlib.Core.Path.{_≡_};
+ghost use mathlib.Core.List.{[], _++_};
+ghost use Prim.Native.Nat.{_+_, _*_, _≤_, _<_};
+ghost use lib.ListN.{length};
+ghost use lib.Dec.{eqb};
+ghost use Rattle.text.specs.Ascii.{ascii};
+ghost use Rattle.text.specs.Decimal.{decimal};
+ghost use Rattle.text.specs.Put.{Placed};
+ghost use Rattle.layout.specs.Layout.{numbers};
+ghost use Rattle.report.specs.Report.{rounded, per-cent, share-line, count-line, count-lines, spaced, sum-line, refused-line};
+ghost use Rattle.printing.specs.Tallied.{TalliesOf, Bounded, OneIf, TypicalTest, AddedTo};
+ghost use Rattle.printing.specs.Contracts.{AllPut};
+
+// How many records of a list have each of the five kinds, how many are typical, and how many there are.
+pub struct Tallies {
+    pub n0: u32,
+    pub n11: u32,
+    pub n21: u32,
+    pub n22: u32,
+    pub n31: u32,
+    pub typical: u32,
+    pub total: u32,
+}
+
+// The tallies of no record.
+pub fn no_records() -> Tallies
+    ensures { λ r. ⌜ TalliesOf [] r ⌝ }
+{
+    Tallies {
+        n0: 0,
+        n11: 0,
+        n21: 0,
+        n22: 0,
+        n31: 0,
+        typical: 0,
+        total: 0,
+    }
+}
+
+// Is the record of this divisor typical?
+fn typical(x: Divisor) -> bool
+    ensures { λ b. ⌜ TypicalTest x b ⌝ }
+{
+    x.kind == 31
+}
+
+// 1 for true, 0 for false.
+fn one_if(b: bool) -> u32
+    ensures { λ r. ⌜ OneIf b r ⌝ }
+{
+    if b {
+        return 1;
+    }
+    0
+}
+
+// 1 for a divisor of the kind, 0 for another.
+fn of_kind(x: Divisor, kind: u32) -> u32
+    ensures { λ r. ⌜ OneIf (eqb (x .kind) kind) r ⌝ }
+{
+    one_if(x.kind == kind)
+}
+
+// The tallies with one record more, that of x.
+pub fn add(t: Tallies, x: Divisor) -> Tallies
+    requires { ⌜ Bounded t ⌝ }
+    requires { ⌜ t .total < 4294967295 ⌝ }
+    ensures { λ r. ⌜ AddedTo t x r ⌝ }
+{
+    Tallies {
+        n0: t.n0 + of_kind(x, 0),
+        n11: t.n11 + of_kind(x, 11),
+        n21: t.n21 + of_kind(x, 21),
+        n22: t.n22 + of_kind(x, 22),
+        n31: t.n31 + of_kind(x, 31),
+        typical: t.typical + one_if(typical(x)),
+        total: t.total + 1,
+    }
+}
+
+// A name and a number on a line.
+fn put_line(out: &mut [u8], at: usize, name: &[u8], n: u32) -> usize
+    requires { do ⌜ at + (← ⟦name.len()⟧) + 11 ≤ (← ⟦out.len()⟧) ⌝ }
+    ensures { λ r. ⌜ Placed (now (out .entry)) at (count-line (now (name .entry)) n) (length (now (name .entry)) + 11) r (now (out .exit)) ⌝ }
+{
+    let named = text::put_bytes(out, at, name);
+    let counted = text::put_number(out, named, n);
+    text::put_byte(out, counted, b'\n')
+}
+
+// The line of a refusal, at the start.
+pub fn put_refused(out: &mut [u8], n: u32) -> usize
+    requires { do ⌜ 19 ≤ (← ⟦out.len()⟧) ⌝ }
+    ensures { λ r. ⌜ Placed (now (out .entry)) 0 (refused-line n) 19 r (now (out .exit)) ⌝ }
+{
+    put_line(out, 0, b"refused ", n)
+}
+
+// The lines of the five kinds.
+fn put_counts(out: &mut [u8], at: usize, t: Tallies) -> usize
+    requires { do ⌜ at + 72 ≤ (← ⟦out.len()⟧) ⌝ }
+    ensures { λ r. ⌜ Placed (now (out .entry)) at (count-lines (t .n0) (t .n11) (t .n21) (t .n22) (t .n31)) 72 r (now (out .exit)) ⌝ }
+{
+    let after0 = put_line(out, at, b"zero ", t.n0);
+    let after11 = put_line(out, after0, b"11 ", t.n11);
+    let after21 = put_line(out, after11, b"21 ", t.n21);
+    let after22 = put_line(out, after21, b"22 ", t.n22);
+    put_line(out, after22, b"31 ", t.n31)
+}
+
+// a / b as a whole number, a half rounded upward.
+fn rounded(a: u64, b: u64) -> u64
+    requires { ⌜ a < 4611686018427387904 ⌝ }
+    requires { ⌜ 0 < b ⌝ }
+    requires { ⌜ b < 4611686018427387904 ⌝ }
+    ensures { λ r. ⌜ r ≡ rounded a b ⌝ }
+{
+    (2 * a + b) / (2 * b)
+}
+
+// Hundredths with two decimals.
+fn put_per_cent(out: &mut [u8], at: usize, h: u32) -> usize
+    requires { do ⌜ at + 13 ≤ (← ⟦out.len()⟧) ⌝ }
+    ensures { λ r. ⌜ Placed (now (out .entry)) at (per-cent h) 13 r (now (out .exit)) ⌝ }
+{
+    let whole = text::put_number(out, at, h / 100);
+    let point = text::put_byte(out, whole, b'.');
+    text::put_two_digits(out, point, h % 100)
+}
+
+// The line of the share.
+fn put_share(out: &mut [u8], at: usize, t: Tallies) -> usize
+    requires { ⌜ t .typical ≤ t .total ⌝ }
+    requires { do ⌜ at + 20 ≤ (← ⟦out.len()⟧) ⌝ }
+    ensures { λ r. ⌜ Placed (now (out .entry)) at (share-line (t .typical) (t .total)) 20 r (now (out .exit)) ⌝ }
+{
+    if t.total == 0 {
+        return text::put_bytes(out, at, b"share none\n");
+    }
+    let hundredths = rounded(10000 * t.typical as u64, t.total as u64);
+    let named = text::put_bytes(out, at, b"share ");
+    let placed = put_per_cent(out, named, hundredths as u32);
+    text::put_byte(out, placed, b'\n')
+}
+
+// A space and a number.
+fn put_spaced(out: &mut [u8], at: usize, n: u32) -> usize
+    requires { do ⌜ at + 11 ≤ (← ⟦out.len()⟧) ⌝ }
+    ensures { λ r. ⌜ Placed (now (out .entry)) at (ascii " " ++ decimal n) 11 r (now (out .exit)) ⌝ }
+{
+    let next = text::put_byte(out, at, b' ');
+    text::put_number(out, next, n)
+}
+
+// The first `count` numbers of a record, each behind a space.
+fn put_numbers(out: &mut [u8], at: usize, w: &[u8], count: usize) -> usize
+    requires { do ⌜ 4 + 4 * count ≤ (← ⟦w.len()⟧) ⌝ }
+    requires { do ⌜ at + 11 * count ≤ (← ⟦out.len()⟧) ⌝ }
+    ensures { λ r. ⌜ Placed (now (out .entry)) at (spaced (numbers (now (w .entry)) 4 count)) (11 * count) r (now (out .exit)) ⌝ }
+{
+    let mut next = at;
+    let mut i = 0;
+    while i < count {
+        let n = layout::read_u32(w, 4 + 4 * i);
+        let placed = put_spaced(out, next, n);
+        next = placed;
+        i += 1;
+    }
+    next
+}
+
+// The line of the sum, whose record is w.
+fn put_sum(out: &mut [u8], at: usize, w: &[u8]) -> usize
+    requires { do ⌜ 4 ≤ (← ⟦w.len()⟧) ⌝ }
+    requires { do ⌜ (← ⟦w.len()⟧) ≤ 40 ⌝ }
+    requires { do ⌜ at + 114 ≤ (← ⟦out.len()⟧) ⌝ }
+    ensures { λ r. ⌜ Placed (now (out .entry)) at (sum-line (now (w .entry))) 114 r (now (out .exit)) ⌝ }
+{
+    let count = (w.len() - 4) / 4;
+    let kind = layout::read_u16(w, 2);
+    let named = text::put_bytes(out, at, b"sum ");
+    let placed = text::put_number(out, named, kind);
+    let numbered = put_numbers(out, placed, w, count);
+    text::put_byte(out, numbered, b'\n')
+}
+
+// All lines: of the kinds, of the share and of the sum, whose record is w.
+pub fn put_all(out: &mut [u8], t: Tallies, w: &[u8]) -> usize
+    requires { ⌜ t .typical ≤ t .total ⌝ }
+    requires { do ⌜ 256 ≤ (← ⟦out.len()⟧) ⌝ }
+    requires { do ⌜ 4 ≤ (← ⟦w.len()⟧) ⌝ }
+    requires { do ⌜ (← ⟦w.len()⟧) ≤ 40 ⌝ }
+    ensures { λ r. ⌜ AllPut t (now (w .entry)) (now (out .entry)) r (now (out .exit)) ⌝ }
+{
+    let after_counts = put_counts(out, 0, t);
+    let after_share = put_share(out, after_counts, t);
+    put_sum(out, after_share, w)
+}
