@@ -28,7 +28,7 @@ use Rattle.triple.specs.Triple.{Spanned}
 use Rattle.triple.specs.Contract.{Open}
 use Rattle.basis.specs.declared.Divisor.{Divisor}
 use Rattle.basis.specs.Divisor.{residues, Based}
-use Rattle.basis.specs.Contract.{degrees, Tripled}
+use Rattle.basis.specs.Contract.{three-degrees, Tripled}
 
 module _ {p : ℕ} {κ : Kind} {r : Divisor} {t : List (List ℕ)} {d : List ℕ} (h : Tripled p κ r t d) where
   pub triple-member : (C : Curve (Z p)) (j : ℕ) → j ≤ 2 → element p C (row t j) ≡ member C κ (residues p r) j
@@ -46,7 +46,7 @@ module _ {p : ℕ} {κ : Kind} {r : Divisor} {t : List (List ℕ)} {d : List ℕ
   pub triple-degree : (j : ℕ) → j ≤ 2 → at d j ≡ degree κ j
   triple-degree j l = ap (λ e. at e j) (h .degrees-are) ∙ listed j l
     where
-      listed : (j : ℕ) → j ≤ 2 → at (degrees κ) j ≡ degree κ j
+      listed : (j : ℕ) → j ≤ 2 → at (three-degrees κ) j ≡ degree κ j
       listed zero l = refl
       listed (suc zero) l = refl
       listed (suc (suc zero)) l = refl

@@ -2,7 +2,7 @@
 use native.Mathlib.Omega.{arith}
 use borrow.Author.Needs.{needs}
 use Rattle.star.proofs.Asked.{least-small, first-small, second-small, y-asked}
-use Rattle.star.proofs.Result.{given-of, posed-of, starred-by}
+use Rattle.star.proofs.Result.{functional-asked, posed-of, starred-by}
 use Rattle.star.proofs.star_from.Statement.{statement}
 use Rattle.star.proofs.star_from.Tie as tie
 
@@ -82,7 +82,7 @@ functional-requires : tie.Need-functional-requires
 functional-requires c κs =
     let first = c .before .before .before .before .before .before .before .before .before in
     let a = first .before .before .before .before .before .before .before .pre in
-    given-of (a .asked) (a .least) (a .some) (first .y-multiples .ensures)
+    functional-asked (a .asked) (a .least) (a .some) (first .y-multiples .ensures)
 
 by-kind-requires : tie.Need-by-kind-requires
 by-kind-requires c κs =

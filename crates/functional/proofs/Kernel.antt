@@ -20,8 +20,8 @@ use Rattle.curve.specs.Filtration.{Below, below-none, below-more, below-step}
 use Rattle.curve.specs.Product.{split}
 use Rattle.curve.specs.Poles.{poles}
 use Rattle.curve.specs.Poles as CP
-use Rattle.star.specs.Functional.{apply, Functional}
-use Rattle.star.proofs.Apply.{apply-add, apply-scale, apply-low, apply-top}
+use Rattle.functional.specs.Functional.{apply, Functional}
+use Rattle.functional.proofs.Apply.{apply-add, apply-scale, apply-low, apply-top}
 
 module _ (K : Field) (C : Curve (K .ring)) where
   open CommRing (K .ring) using (Car, zero as 𝟘, one as 𝟙, add as _+ₖ_, mul as _·ₖ_, neg as -ₖ_)

@@ -23,9 +23,9 @@ use Rattle.curve.specs.Lead.{twist-one}
 use Rattle.curve.specs.Product.{below-mono, coefficient-mono, product-below, product-top}
 use Rattle.curve.specs.Poles.{below-constant}
 use Rattle.divisor.proofs.Monomials.{mono-x, mono-y}
-use Rattle.star.specs.Functional.{apply, Functional, candidate}
-use Rattle.star.proofs.Apply.{apply-add, apply-scale}
-use Rattle.star.proofs.Kernel.{functional-low, functional-top}
+use Rattle.functional.specs.Functional.{apply, Functional, candidate}
+use Rattle.functional.proofs.Apply.{apply-add, apply-scale}
+use Rattle.functional.proofs.Kernel.{functional-low, functional-top}
 
 three : IsPole 3
 three = pole-intro (omega arith) (omega arith) (omega arith)

@@ -17,8 +17,8 @@ use Rattle.curve.specs.Curve.{Curve, Coordinate}
 use Rattle.curve.specs.Filtration.{Below, below-more}
 use Rattle.curve.specs.Product.{product-below}
 use Rattle.curve.specs.Poles.{poles}
-use Rattle.star.specs.Functional.{apply, Functional}
-use Rattle.star.proofs.Kernel.{functional-kernel}
+use Rattle.functional.specs.Functional.{apply, Functional}
+use Rattle.functional.proofs.Kernel.{functional-kernel}
 
 pub by-gap : (A : ℕ → Type 0) → A 1 → A 2 → A 5 → (m : ℕ) → IsGap m → A m
 by-gap A a b c m (inl e) = subst A (sym e) a
