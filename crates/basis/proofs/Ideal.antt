@@ -67,7 +67,8 @@ module _ {p : ℕ} {κ : Kind} {r : Divisor} {t : List (List ℕ)} {d : List ℕ
 
     pub triple-closed : ((j : ℕ) → j < 3 → Spanned S t (ring S .mul (y C) (element p C (row t j)))) → IsBasis C κ (residues p r)
     triple-closed c =
-        B.closed-basis (F p (S .prime)) C (S .nonzero) κ (residues p r) (λ j l. subst (λ u. Span (poles-of S) (members C κ (residues p r)) (ring S .mul (y C) u)) (triple-member C j l) (there _ (c j (omega arith))))
+        B.closed-basis (F p (S .prime)) C (S .nonzero) κ (residues p r)
+        (λ j l. subst (λ u. Span (poles-of S) (members C κ (residues p r)) (ring S .mul (y C) u)) (triple-member C j l) (there _ (c j (omega arith))))
 
     module _ (b : IsBasis C κ (residues p r)) where
       based-closed : B.Closed (F p (S .prime)) C (S .nonzero) κ (residues p r)

@@ -135,7 +135,10 @@ module _ {p m a0 a3 a4 a7 : ℕ} (h : Monomials p m a0 a3 a4 a7) where
   low : Top v₄ m
   unfolding v₄ v₃ v₂ v₁ v₀
   low =
-      top-set v₃ m 7 a7 (omega (arith, h₃ .len)) (top-set v₂ m 4 a4 (omega (arith, h₂ .len)) (top-set v₁ m 3 a3 (omega (arith, h₁ .len)) (top-set v₀ m 0 a0 (omega (arith, h₀ .len)) (λ i l. zeros-at width i) (h .zero-0)) (h .zero-3)) (h .zero-4)) (h .zero-7)
+      let at-0 = top-set v₀ m 0 a0 (omega (arith, h₀ .len)) (λ i l. zeros-at width i) (h .zero-0) in
+      let at-3 = top-set v₁ m 3 a3 (omega (arith, h₁ .len)) at-0 (h .zero-3) in
+      let at-4 = top-set v₂ m 4 a4 (omega (arith, h₂ .len)) at-3 (h .zero-4) in
+      top-set v₃ m 7 a7 (omega (arith, h₃ .len)) at-4 (h .zero-7)
 
   pub row-present : Present (coefficients m a0 a3 a4 a7) (m % 3) m
   unfolding coefficients v₄ v₃ v₂ v₁ v₀
@@ -182,5 +185,6 @@ module _ {p m a0 a3 a4 a7 : ℕ} (h : Monomials p m a0 a3 a4 a7) where
         element-set p C h₄ m 1 (h .large) (h .inside) pole-m (low m (omega arith))
         ∙ ap₂ _⊕_ (ap (λ u. u ⊗ mono C m) (ap (constant C) (el-one p) ∙ constant-one C) ∙ L.one-mul (Coordinate C) _) (value-7 ∙ lower)
       where
-        lower : scalar p C a7 ⊗ mono C 7 ⊕ (scalar p C a4 ⊗ mono C 4 ⊕ (scalar p C a3 ⊗ mono C 3 ⊕ (scalar p C a0 ⊗ mono C 0 ⊕ 𝟎))) ≡ scalar p C a7 ⊗ (x C ⊗ y C) ⊕ (scalar p C a4 ⊗ y C ⊕ (scalar p C a3 ⊗ x C ⊕ scalar p C a0))
+        lower : scalar p C a7 ⊗ mono C 7 ⊕ (scalar p C a4 ⊗ mono C 4 ⊕ (scalar p C a3 ⊗ mono C 3 ⊕ (scalar p C a0 ⊗ mono C 0 ⊕ 𝟎)))
+            ≡ scalar p C a7 ⊗ (x C ⊗ y C) ⊕ (scalar p C a4 ⊗ y C ⊕ (scalar p C a3 ⊗ x C ⊕ scalar p C a0))
         lower = cc (mono-one C, mono-x C, mono-y C, mono-xy C, Coordinate C .add-zero (scalar p C a0), Coordinate C .mul-one (scalar p C a0))

@@ -37,7 +37,10 @@ four = pole-intro (omega arith) (omega arith) (omega arith)
 sum-u : (R : CommRing) (m c t a4 a3 a0 : R .Car) → R .mul c t ≡ R .one → a4 ≡ R .neg (R .mul c m)
     → R .add (R .add (R .add m (R .mul a4 (R .mul t (R .mul (R .one) (R .one))))) (R .mul a3 (R .zero))) (R .mul a0 (R .zero)) ≡ R .zero
 sum-u R m c t a4 a3 a0 e f =
-    solve-from R 6 (λ m c t a4 a3 a0. given (⊟ m) (c ⊠ t) unit ∷ given t a4 (⊟ (c ⊠ m)) ∷ []) (λ m c t a4 a3 a0. m ⊞ a4 ⊠ (t ⊠ (unit ⊠ unit)) ⊞ a3 ⊠ nil ⊞ a0 ⊠ nil) (λ m c t a4 a3 a0. nil) tt m c t a4 a3 a0 (e, (f, tt))
+    solve-from R 6
+    (λ m c t a4 a3 a0. given (⊟ m) (c ⊠ t) unit ∷ given t a4 (⊟ (c ⊠ m)) ∷ [])
+    (λ m c t a4 a3 a0. m ⊞ a4 ⊠ (t ⊠ (unit ⊠ unit)) ⊞ a3 ⊠ nil ⊞ a0 ⊠ nil)
+    (λ m c t a4 a3 a0. nil) tt m c t a4 a3 a0 (e, (f, tt))
 
 sum-w : (R : CommRing) (m y a4 a3 a0 : R .Car) → a3 ≡ R .neg (R .add (R .mul a4 y) m)
     → R .add (R .add (R .add m (R .mul a4 y)) (R .mul a3 (R .one))) (R .mul a0 (R .zero)) ≡ R .zero
@@ -79,7 +82,8 @@ module _ {k : CommRing} (C : Curve k) where
       (apply-scale C N lam a3 (x C ⊗ g) ∙ ap (λ u. a3 ·ₖ apply C N lam (u ⊗ g)) (sym (mono-x C))))
       (apply-scale C N lam a0 g)
 
-module _ (K : Field) (C : Curve (K .ring)) (N : ℕ) {f : Coordinate C .Car} {d : ℕ} {lam : ℕ → K .ring .Car} (F : Functional C N f d lam) (room : d + largest-gap < N) (n : ℕ) (a4 a3 a0 : K .ring .Car) where
+module _ (K : Field) (C : Curve (K .ring)) (N : ℕ) {f : Coordinate C .Car} {d : ℕ} {lam : ℕ → K .ring .Car} (F : Functional C N f d lam)
+    (room : d + largest-gap < N) (n : ℕ) (a4 a3 a0 : K .ring .Car) where
   open CommRing (K .ring) using (Car, zero as 𝟘, one as 𝟙, add as _+ₖ_, mul as _·ₖ_, neg as -ₖ_)
   open CommRing (Coordinate C) using (Car as El, add as _⊕_, mul as _⊗_)
 
@@ -117,7 +121,8 @@ module _ (K : Field) (C : Curve (K .ring)) (N : ℕ) {f : Coordinate C .Car} {d 
           ∙ ap₂ _·ₖ_ (twist-one C 3 (d + 2) (omega arith)) (K .ring .mul-one 𝟙)
           ∙ K .ring .mul-one 𝟙
 
-  pub equation-v : (v : El) → Below C (suc (d + 5)) v → coefficient C (d + 5) v ≡ 𝟙 → a0 ≡ -ₖ (a3 ·ₖ apply C N lam (mono C 3 ⊗ v) +ₖ (a4 ·ₖ apply C N lam (mono C 4 ⊗ v) +ₖ apply C N lam (mono C n ⊗ v)))
+  pub equation-v : (v : El) → Below C (suc (d + 5)) v → coefficient C (d + 5) v ≡ 𝟙
+      → a0 ≡ -ₖ (a3 ·ₖ apply C N lam (mono C 3 ⊗ v) +ₖ (a4 ·ₖ apply C N lam (mono C 4 ⊗ v) +ₖ apply C N lam (mono C n ⊗ v)))
       → apply C N lam (candidate C n a4 a3 a0 ⊗ v) ≡ 𝟘
   equation-v v b o q =
       candidate-apply C N lam n a4 a3 a0 v

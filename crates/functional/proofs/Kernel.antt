@@ -57,16 +57,23 @@ module _ (K : Field) (C : Curve (K .ring)) where
         where
           q : d + largest-gap + m ≡ d + largest-gap
           q = omega arith
-      step m l next h b e (no n) = go (lowered (poles K C nonzero) {g = h} b (pole-at (poles K C nonzero) {n = d + largest-gap + m} (omega arith) (pole-mul (poles K C nonzero) (mono-has (poles K C nonzero) {n = m + 5} (pole-large (omega arith))) pf)))
+      step m l next h b e (no n) = go (lowered (poles K C nonzero) {g = h} b (pole-at (poles K C nonzero) {n = d + largest-gap + m} (omega arith) product))
         where
+          product : HasPole (poles K C nonzero) (mono C (m + 5) ⊗ f) (m + 5 + d)
+          product = pole-mul (poles K C nonzero) (mono-has (poles K C nonzero) {n = m + 5} (pole-large (omega arith))) pf
+
           go : (a : El) × Below C 1 a × Below C (d + largest-gap + m) (h ⊕ a ⊗ (mono C (m + 5) ⊗ f)) → Ker (poles K C nonzero) f d h
           go (a, c, b′) = ker-less (poles K C nonzero) pf (subst (Ker (poles K C nonzero) f d) (turned h a (mono C (m + 5)) f) (next _ b′ same))
             where
               same : apply C N lam (h ⊕ a ⊗ (mono C (m + 5) ⊗ f)) ≡ 𝟘
-              same =
-                  apply-add C N lam h _
-                  ∙ ap₂ _+ₖ_ e (ap (λ u. apply C N lam (u ⊗ (mono C (m + 5) ⊗ f))) (constant-of c) ∙ apply-scale C N lam _ _ ∙ ap (λ u. coefficient C 0 a ·ₖ u) (F .kills (m + 5) (omega arith) (omega arith)) ∙ L.mul-zero (K .ring) _)
-                  ∙ K .ring .add-zero 𝟘
+              same = apply-add C N lam h _ ∙ ap₂ _+ₖ_ e multiple ∙ K .ring .add-zero 𝟘
+                where
+                  multiple : apply C N lam (a ⊗ (mono C (m + 5) ⊗ f)) ≡ 𝟘
+                  multiple =
+                      ap (λ u. apply C N lam (u ⊗ (mono C (m + 5) ⊗ f))) (constant-of c)
+                      ∙ apply-scale C N lam _ _
+                      ∙ ap (λ u. coefficient C 0 a ·ₖ u) (F .kills (m + 5) (omega arith) (omega arith))
+                      ∙ L.mul-zero (K .ring) _
 
       descent : (m : ℕ) → m ≤ 9 → (h : El) → Below C (d + largest-gap + m) h → apply C N lam h ≡ 𝟘 → Ker (poles K C nonzero) f d h
       unfolding poles

@@ -50,4 +50,6 @@ module _ (K : Field) (C : Curve (K .ring)) (nonzero : ¬ (C .a0 ≡ K .ring .zer
         → (¬ Lead (poles K C nonzero) J (d + 2)) ⊎ Killed J lam 2 g
         → (¬ Lead (poles K C nonzero) J (d + 5)) ⊎ Killed J lam 5 g → Colon (Coordinate C) f J g
     member i m lowest g b x y z =
-        colon-member (poles K C nonzero) pf i m lowest g (by-gap (λ n. (¬ Lead (poles K C nonzero) J (d + n)) ⊎ Taken (poles K C nonzero) f d J g (d + n)) (taken 1 (omega arith) g b x) (taken 2 (omega arith) g b y) (taken 5 (omega arith) g b z))
+        colon-member (poles K C nonzero) pf i m lowest g
+        (by-gap (λ n. (¬ Lead (poles K C nonzero) J (d + n)) ⊎ Taken (poles K C nonzero) f d J g (d + n))
+        (taken 1 (omega arith) g b x) (taken 2 (omega arith) g b y) (taken 5 (omega arith) g b z))

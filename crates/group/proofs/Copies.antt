@@ -64,7 +64,8 @@ module _ {g : Ground} (G : Grounded g) {a : Divisor} (D : IsDivisor (G .ready .s
   copies-sum i j (X, e) (Y, e′) s =
       let z = sum-equivalent s (record { grounded = G; a-is = X; b-is = Y }) in
       let join = productof-join (poles-of S) I (replicate i tt) (replicate j tt) (copies-ideal i) (copies-ideal j) (equivalent-sym (poles-of S) e) (equivalent-sym (poles-of S) e′) in
-      (z .0, subst (λ us. Equivalent (ring S) (ProductOf (ring S) I us) (ideal S _ (z .0))) (replicate-append-replicate i j tt) (equivalent-trans (poles-of S) (equivalent-sym (poles-of S) join) (z .1)))
+      let all = equivalent-trans (poles-of S) (equivalent-sym (poles-of S) join) (z .1) in
+      (z .0, subst (λ us. Equivalent (ring S) (ProductOf (ring S) I us) (ideal S _ (z .0))) (replicate-append-replicate i j tt) all)
 
   pub record Held (m w : ℕ) (r b : Divisor) (n : ℕ) : Type 0 where
     pub i : ℕ

@@ -71,5 +71,8 @@ module _ {q : Pose} where
     term-one-is {a3 = a3} k w i j l =
         record {
           below = l .below;
-          is = λ C g rows. let inner = i .is ∙ ap₂ (λ s t. Z p .add (Z p .mul (el p a4) s) t) (k .v4 .is C g rows) (w .is C g rows) in l .is ∙ ap (Z p .neg) (j .is ∙ ap₂ (λ s t. Z p .add (Z p .mul (el p a3) s) t) (k .v3 .is C g rows) inner);
+          is = λ C g rows. l .is ∙ ap (Z p .neg) (j .is ∙ ap₂ (sum a3) (k .v3 .is C g rows) (i .is ∙ ap₂ (sum a4) (k .v4 .is C g rows) (w .is C g rows)));
         }
+      where
+        sum : ℕ → Z p .Car → Z p .Car → Z p .Car
+        sum n s t = Z p .add (Z p .mul (el p n) s) t

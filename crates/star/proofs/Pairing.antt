@@ -53,8 +53,11 @@ module _ {q : Pose} {e n h : ℕ} {lam : List ℕ} {ys : List (List ℕ)} (A : V
   value-at v =
       record {
         below = v .below;
-        is = λ C g o. let moved = x-to p C ((n - 4 * (n % 3) + h) / 3) in v .is C ∙ ap (λ u. Λ p C lam (Coordinate C .mul moved u)) (o .is (n % 3) (omega arith)) ∙ ap (Λ p C lam) (shifted-mono p n h C (A .pole) (A .class) g);
+        is = λ C g o. v .is C ∙ ap (λ u. Λ p C lam (Coordinate C .mul (moved C) u)) (o .is (n % 3) (omega arith)) ∙ ap (Λ p C lam) (shifted-mono p n h C (A .pole) (A .class) g);
       }
+    where
+      moved : (C : Curve (Z p)) → Coordinate C .Car
+      moved C = x-to p C ((n - 4 * (n % 3) + h) / 3)
 
 pub value-at-none : {q : Pose} {n r : ℕ} {lam : List ℕ} {ys : List (List ℕ)} → ValueAt q lam ys n 0 r
     → (C : Curve (Z (q .p))) (g : Coordinate C .Car) → RowsOf (q .p) C ys g → el (q .p) r ≡ Λ (q .p) C lam (Coordinate C .mul (mono C n) g)

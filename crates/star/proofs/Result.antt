@@ -1,8 +1,8 @@
 -- The divisor that star returns is the star of the triple's span.
 --   pose-of                            what the parts of star share: the modulus, the inverse of −a0 and the three degrees
 --   functional-asked, posed-of         what star asks of functional and of by_kind
---   starred-0 … starred-31             a divisor with the numbers of its kind's candidates is the star, where the degrees are those of the kind
---   starred-by                         … whichever the kind
+--   starred-0                          the zero class is the star, where d2 is d + 8
+--   starred-by                         else the divisor of by_kind is
 use mathlib.Core.Path.{_≡_, refl, sym, _∙_, ap, subst}
 use mathlib.Core.List.{List, [], _∷_}
 use mathlib.Core.Logic.{⊎-elim}
@@ -38,7 +38,7 @@ use Rattle.star.specs.declared.Pose.{Pose}
 use Rattle.star.specs.declared.Terms.{Terms}
 use Rattle.star.specs.Contract.{StarAsked, Starred, LeastOf}
 use Rattle.star.specs.Lambda.{FunctionalAsked, FunctionalOf}
-use Rattle.star.specs.Parts.{Posed, Solved, divisor-11, divisor-21, divisor-22, divisor-31, Made11, Made21, Made22, Made31}
+use Rattle.star.specs.Parts.{Posed, Solved, divisor-11, divisor-21, divisor-22, divisor-31}
 use Rattle.star.specs.Parts.{ByKind, is-31, is-21, is-22, is-11}
 use Rattle.star.proofs.Asked.{S, in-span, member-monic, member-pole, degrees-of, steps-of, least-element, least-small, near-1, near-2, least-low}
 
@@ -204,57 +204,37 @@ module _ {g : Ground} {t : List (List ℕ)} {d : List ℕ} (A : StarAsked g t d)
     pole-8 : IsPole 8
     pole-8 = pole-large (omega arith)
 
-    pub starred-11 : ¬ (d₁ ≡ d₀ + 1) → ¬ (d₂ ≡ d₀ + 2) → {r : Divisor} → Made11 q lam us ws r → Starred p (S A) t r
-    starred-11 u w {r} m =
-        let f = m .f-solved in
-        let g = m .g-solved in
-        let first = colon-x K C (S A .nonzero) width scene (solves f) w in
-        let second = colon-one K C (S A .nonzero) width scene (mono-y C) pole-4 (omega arith) (solves g) u w in
-        subst (Starred p (S A) t) (sym (m .is))
-        (starred k11 (divisor-11 (m .f) (m .g)) refl (f .one-term .below, (g .one-term .below, zeros 7))
-        (meets-one K C (S A .nonzero) width scene, tt)
-        (first, (second, tt)))
-
-    pub starred-21 : ¬ (d₁ ≡ d₀ + 1) → d₂ ≡ d₀ + 2 → {r : Divisor} → Made21 q lam us ws r → Starred p (S A) t r
-    starred-21 u e {r} m =
-        let f = m .f-solved in
-        let g = m .g-solved in
-        let first = colon-x-one K C (S A .nonzero) width scene (mono-y C) pole-4 (omega arith) (solves f) u in
-        let second = colon-x-one K C (S A .nonzero) width scene (mono-xx C) pole-6 (omega arith) (solves g) u in
-        subst (Starred p (S A) t) (sym (m .is))
-        (starred k21 (divisor-21 (m .f) (m .g)) refl (f .one-term .below, (f .x-term .below, (g .one-term .below, (g .x-term .below, zeros 5))))
-        (meets-one K C (S A .nonzero) width scene, (meets-x K C (S A .nonzero) width scene e, tt))
-        (first, (second, tt)))
-
-    pub starred-22 : d₁ ≡ d₀ + 1 → ¬ (d₂ ≡ d₀ + 2) → {r : Divisor} → Made22 q lam us ws r → Starred p (S A) t r
-    starred-22 e w {r} m =
-        let f = m .f-solved in
-        let g = m .g-solved in
-        let first = colon-x K C (S A .nonzero) width scene (solves f) w in
-        let second = colon-y-one K C (S A .nonzero) width scene (mono-yy C) pole-8 (omega arith) (solves g) w in
-        subst (Starred p (S A) t) (sym (m .is))
-        (starred k22 (divisor-22 (m .f) (m .g)) refl (f .one-term .below, (g .one-term .below, (g .y-term .below, zeros 6)))
-        (meets-one K C (S A .nonzero) width scene, (meets-y K C (S A .nonzero) width scene e, tt))
-        (first, (second, tt)))
-
     -- the three numbers of a candidate are below p
     three-below : {n : ℕ} {r : Terms} (ns : List ℕ) → Solved q lam us ws n r → Every (λ m. m < p) ns → Every (λ m. m < p) (r .a0 ∷ r .a3 ∷ r .a4 ∷ ns)
     three-below ns s rest = (s .one-term .below, (s .x-term .below, (s .y-term .below, rest)))
 
-    pub starred-31 : d₁ ≡ d₀ + 1 → d₂ ≡ d₀ + 2 → {r : Divisor} → Made31 q lam us ws r → Starred p (S A) t r
-    starred-31 e e′ {r} m =
-        let last = m .h .a0 ∷ m .h .a3 ∷ m .h .a4 ∷ [] in
-        let first = colon-all K C (S A .nonzero) width scene (mono-xx C) pole-6 (omega arith) (solves (m .f-solved)) in
-        let second = colon-all K C (S A .nonzero) width scene (mono-xy C) pole-7 (omega arith) (solves (m .g-solved)) in
-        let third = colon-all K C (S A .nonzero) width scene (mono-yy C) pole-8 (omega arith) (solves (m .h-solved)) in
-        subst (Starred p (S A) t) (sym (m .is))
-        (starred k31 (divisor-31 (m .f) (m .g) (m .h)) refl
-        (three-below (m .g .a0 ∷ m .g .a3 ∷ m .g .a4 ∷ last) (m .f-solved) (three-below last (m .g-solved) (three-below [] (m .h-solved) tt)))
-        (meets-one K C (S A .nonzero) width scene, (meets-x K C (S A .nonzero) width scene e′, (meets-y K C (S A .nonzero) width scene e, tt)))
-        (first, (second, (third, tt))))
-
     pub starred-by : {r : Divisor} → ByKind (pose-of g d j) lam us ws r → Starred p (S A) t r
-    starred-by (is-31 a b m) = starred-31 a b m
-    starred-by (is-21 a b m) = starred-21 a b m
-    starred-by (is-22 a b m) = starred-22 a b m
-    starred-by (is-11 a b m) = starred-11 a b m
+    starred-by (is-11 f g u w sf sg e) =
+        let first = colon-x K C (S A .nonzero) width scene (solves sf) w in
+        let second = colon-one K C (S A .nonzero) width scene (mono-y C) pole-4 (omega arith) (solves sg) u w in
+        subst (Starred p (S A) t) (sym e)
+        (starred k11 (divisor-11 f g) refl (sf .one-term .below, (sg .one-term .below, zeros 7)) (meets-one K C (S A .nonzero) width scene, tt)
+        (first, (second, tt)))
+    starred-by (is-21 f g u w sf sg e) =
+        let first = colon-x-one K C (S A .nonzero) width scene (mono-y C) pole-4 (omega arith) (solves sf) u in
+        let second = colon-x-one K C (S A .nonzero) width scene (mono-xx C) pole-6 (omega arith) (solves sg) u in
+        subst (Starred p (S A) t) (sym e)
+        (starred k21 (divisor-21 f g) refl (sf .one-term .below, (sf .x-term .below, (sg .one-term .below, (sg .x-term .below, zeros 5))))
+        (meets-one K C (S A .nonzero) width scene, (meets-x K C (S A .nonzero) width scene w, tt))
+        (first, (second, tt)))
+    starred-by (is-22 f g u w sf sg e) =
+        let first = colon-x K C (S A .nonzero) width scene (solves sf) w in
+        let second = colon-y-one K C (S A .nonzero) width scene (mono-yy C) pole-8 (omega arith) (solves sg) w in
+        subst (Starred p (S A) t) (sym e)
+        (starred k22 (divisor-22 f g) refl (sf .one-term .below, (sg .one-term .below, (sg .y-term .below, zeros 6)))
+        (meets-one K C (S A .nonzero) width scene, (meets-y K C (S A .nonzero) width scene u, tt))
+        (first, (second, tt)))
+    starred-by (is-31 f g h u w sf sg sh e) =
+        let last = h .a0 ∷ h .a3 ∷ h .a4 ∷ [] in
+        let first = colon-all K C (S A .nonzero) width scene (mono-xx C) pole-6 (omega arith) (solves sf) in
+        let second = colon-all K C (S A .nonzero) width scene (mono-xy C) pole-7 (omega arith) (solves sg) in
+        let third = colon-all K C (S A .nonzero) width scene (mono-yy C) pole-8 (omega arith) (solves sh) in
+        subst (Starred p (S A) t) (sym e)
+        (starred k31 (divisor-31 f g h) refl (three-below (g .a0 ∷ g .a3 ∷ g .a4 ∷ last) sf (three-below last sg (three-below [] sh tt)))
+        (meets-one K C (S A .nonzero) width scene, (meets-x K C (S A .nonzero) width scene w, (meets-y K C (S A .nonzero) width scene u, tt)))
+        (first, (second, (third, tt))))

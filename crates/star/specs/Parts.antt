@@ -8,8 +8,7 @@
 --   TermOneAsked, TermOne        term_one: … and the constant
 --   SolveAsked, Solved           solve: … all three
 --   divisor-11 … divisor-31      the divisors of the kinds, their numbers taken from candidates
---   Made11 … Made31              star_11 … star_31: the divisor has the numbers of its kind's candidates
---   ByKind                       by_kind: … of the kind that the degrees tell
+--   ByKind                       by_kind: the divisor of the kind that the degrees tell, with the numbers of its candidates
 use mathlib.Core.Path.{_≡_}
 use mathlib.Core.List.{List}
 use Prim.Native.Nat.{ℕ, _+_, _*_, _-_, _/_, _%_, _<_, _≤_}
@@ -123,38 +122,8 @@ module _ (q : Pose) where
       pub x-term : TermX lam ws n (r .a4) (r .a3)
       pub one-term : TermOne lam ws n (r .a4) (r .a3) (r .a0)
 
-    pub record Made11 (r : Divisor) : Type 0 where
-      pub f : Terms
-      pub g : Terms
-      pub f-solved : Solved 3 f
-      pub g-solved : Solved 4 g
-      pub is : r ≡ divisor-11 f g
-
-    pub record Made21 (r : Divisor) : Type 0 where
-      pub f : Terms
-      pub g : Terms
-      pub f-solved : Solved 4 f
-      pub g-solved : Solved 6 g
-      pub is : r ≡ divisor-21 f g
-
-    pub record Made22 (r : Divisor) : Type 0 where
-      pub f : Terms
-      pub g : Terms
-      pub f-solved : Solved 3 f
-      pub g-solved : Solved 8 g
-      pub is : r ≡ divisor-22 f g
-
-    pub record Made31 (r : Divisor) : Type 0 where
-      pub f : Terms
-      pub g : Terms
-      pub h : Terms
-      pub f-solved : Solved 6 f
-      pub g-solved : Solved 7 g
-      pub h-solved : Solved 8 h
-      pub is : r ≡ divisor-31 f g h
-
     pub data ByKind (r : Divisor) : Type 0 where
-      is-31 : d1 ≡ d + 1 → d2 ≡ d + 2 → Made31 r → ByKind r
-      is-21 : ¬ (d1 ≡ d + 1) → d2 ≡ d + 2 → Made21 r → ByKind r
-      is-22 : d1 ≡ d + 1 → ¬ (d2 ≡ d + 2) → Made22 r → ByKind r
-      is-11 : ¬ (d1 ≡ d + 1) → ¬ (d2 ≡ d + 2) → Made11 r → ByKind r
+      is-31 : (f g h : Terms) → d1 ≡ d + 1 → d2 ≡ d + 2 → Solved 6 f → Solved 7 g → Solved 8 h → r ≡ divisor-31 f g h → ByKind r
+      is-21 : (f g : Terms) → ¬ (d1 ≡ d + 1) → d2 ≡ d + 2 → Solved 4 f → Solved 6 g → r ≡ divisor-21 f g → ByKind r
+      is-22 : (f g : Terms) → d1 ≡ d + 1 → ¬ (d2 ≡ d + 2) → Solved 3 f → Solved 8 g → r ≡ divisor-22 f g → ByKind r
+      is-11 : (f g : Terms) → ¬ (d1 ≡ d + 1) → ¬ (d2 ≡ d + 2) → Solved 3 f → Solved 4 g → r ≡ divisor-11 f g → ByKind r

@@ -5,7 +5,7 @@ ghost use mathlib.Core.Path.{_≡_};
 ghost use Rattle.star.specs.Contract.{StarAsked, StarOf, LeastOf, FromAsked};
 ghost use Rattle.star.specs.Lambda.{ValueAsked, Valued, ValueAtAsked, ValueAt, OppositeAsked, OppositeOf, FunctionalAsked, FunctionalOf};
 ghost use Rattle.star.specs.Parts.{PosedW, ValuesOf, TermYAsked, TermY, TermXAsked, TermX, TermOneAsked, TermOne, SolveAsked, Solved};
-ghost use Rattle.star.specs.Parts.{Posed, Made11, Made21, Made22, Made31, ByKind};
+ghost use Rattle.star.specs.Parts.{Posed, ByKind};
 use basis::Divisor;
 use ground::Ground;
 
@@ -157,77 +157,45 @@ fn solve(
     Terms { a0, a3, a4 }
 }
 
-// x + f0; y + g0
-fn star_11(q: Pose, lam: &[u32; 26], us: &[[u32; 26]; 3], ws: &[[u32; 26]; 3]) -> Divisor
-    requires { ⌜ Posed q (now lam) (now us) (now ws) ⌝ }
-    ensures { λ r. ⌜ Made11 q (now (lam .entry)) (now (us .entry)) (now (ws .entry)) r ⌝ }
-{
-    let v = values_of(q, lam, ws);
-    let f = solve(q, lam, us, ws, v, 3);
-    let g = solve(q, lam, us, ws, v, 4);
-    basis::of_four(11, f.a0, g.a0, 0, 0)
-}
-
-// y + f1·x + f0; x² + g1·x + g0
-fn star_21(q: Pose, lam: &[u32; 26], us: &[[u32; 26]; 3], ws: &[[u32; 26]; 3]) -> Divisor
-    requires { ⌜ Posed q (now lam) (now us) (now ws) ⌝ }
-    ensures { λ r. ⌜ Made21 q (now (lam .entry)) (now (us .entry)) (now (ws .entry)) r ⌝ }
-{
-    let v = values_of(q, lam, ws);
-    let f = solve(q, lam, us, ws, v, 4);
-    let g = solve(q, lam, us, ws, v, 6);
-    basis::of_four(21, f.a0, f.a3, g.a0, g.a3)
-}
-
-// x + f0; y² + g1·y + g0
-fn star_22(q: Pose, lam: &[u32; 26], us: &[[u32; 26]; 3], ws: &[[u32; 26]; 3]) -> Divisor
-    requires { ⌜ Posed q (now lam) (now us) (now ws) ⌝ }
-    ensures { λ r. ⌜ Made22 q (now (lam .entry)) (now (us .entry)) (now (ws .entry)) r ⌝ }
-{
-    let v = values_of(q, lam, ws);
-    let f = solve(q, lam, us, ws, v, 3);
-    let g = solve(q, lam, us, ws, v, 8);
-    basis::of_four(22, f.a0, g.a0, g.a4, 0)
-}
-
-// x² + f2·y + f1·x + f0; xy + g2·y + g1·x + g0; y² + h2·y + h1·x + h0
-fn star_31(q: Pose, lam: &[u32; 26], us: &[[u32; 26]; 3], ws: &[[u32; 26]; 3]) -> Divisor
-    requires { ⌜ Posed q (now lam) (now us) (now ws) ⌝ }
-    ensures { λ r. ⌜ Made31 q (now (lam .entry)) (now (us .entry)) (now (ws .entry)) r ⌝ }
-{
-    let v = values_of(q, lam, ws);
-    let f = solve(q, lam, us, ws, v, 6);
-    let g = solve(q, lam, us, ws, v, 7);
-    let h = solve(q, lam, us, ws, v, 8);
-    Divisor {
-        kind: 31,
-        n0: f.a0,
-        n1: f.a3,
-        n2: f.a4,
-        n3: g.a0,
-        n4: g.a3,
-        n5: g.a4,
-        n6: h.a0,
-        n7: h.a3,
-        n8: h.a4,
-    }
-}
-
 // The divisor of the kind that the degrees d1 and d2 tell.
 fn by_kind(q: Pose, lam: &[u32; 26], us: &[[u32; 26]; 3], ws: &[[u32; 26]; 3]) -> Divisor
     requires { ⌜ Posed q (now lam) (now us) (now ws) ⌝ }
     ensures { λ r. ⌜ ByKind q (now (lam .entry)) (now (us .entry)) (now (ws .entry)) r ⌝ }
 {
+    let v = values_of(q, lam, ws);
     if q.d2 == q.d + 2 {
         if q.d1 == q.d + 1 {
-            return star_31(q, lam, us, ws);
+            // x² + f2·y + f1·x + f0; xy + g2·y + g1·x + g0; y² + h2·y + h1·x + h0
+            let f = solve(q, lam, us, ws, v, 6);
+            let g = solve(q, lam, us, ws, v, 7);
+            let h = solve(q, lam, us, ws, v, 8);
+            return Divisor {
+                kind: 31,
+                n0: f.a0,
+                n1: f.a3,
+                n2: f.a4,
+                n3: g.a0,
+                n4: g.a3,
+                n5: g.a4,
+                n6: h.a0,
+                n7: h.a3,
+                n8: h.a4,
+            };
         }
-        return star_21(q, lam, us, ws);
+        // y + f1·x + f0; x² + g1·x + g0
+        let f = solve(q, lam, us, ws, v, 4);
+        let g = solve(q, lam, us, ws, v, 6);
+        return basis::of_four(21, f.a0, f.a3, g.a0, g.a3);
     }
+    let f = solve(q, lam, us, ws, v, 3);
     if q.d1 == q.d + 1 {
-        return star_22(q, lam, us, ws);
+        // x + f0; y² + g1·y + g0
+        let g = solve(q, lam, us, ws, v, 8);
+        return basis::of_four(22, f.a0, g.a0, g.a4, 0);
     }
-    star_11(q, lam, us, ws)
+    // x + f0; y + g0
+    let g = solve(q, lam, us, ws, v, 4);
+    basis::of_four(11, f.a0, g.a0, 0, 0)
 }
 
 // The class of the least degree.

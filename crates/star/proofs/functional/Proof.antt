@@ -70,8 +70,9 @@ loop-less c = omega arith
 loop-again : tie.Need-loop-again Inv-loop μ-loop
 loop-again c =
     let value = c .before .before .before in
-    let l = value .before .before .before .before .before .before in (
-      partial-more (l .before .before .pre) (l .loop .inv .0) (l .loop .inv .1) (value .before .before .before .before .before .loop-test .taken) (value .value .ensures) (c .before .opposite .ensures),
+    let l = value .before .before .before .before .before .before in
+    let asked = l .before .before .pre in (
+      partial-more asked (l .loop .inv .0) (l .loop .inv .1) (value .before .before .before .before .before .loop-test .taken) (value .value .ensures) (c .before .opposite .ensures),
       omega arith,
       omega arith,
     )

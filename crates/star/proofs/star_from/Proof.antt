@@ -98,7 +98,8 @@ returns c A =
     let second = third .before .before .before .before in
     let first = second .before .before .before .before in
     let a = first .before .before .before .before .before .before .before .pre in
-    starred-by A (a .least) (a .some) (c .before .before .before .before .functional .ensures) (first .y-multiples .ensures) (second .y-multiples2 .ensures) (third .y-multiples3 .ensures) (c .by-kind .ensures)
+    let lam = c .before .before .before .before .functional .ensures in
+    starred-by A (a .least) (a .some) lam (first .y-multiples .ensures) (second .y-multiples2 .ensures) (third .y-multiples3 .ensures) (c .by-kind .ensures)
 
 pub star-from-spec : {M : Type 1} → statement M
 star-from-spec =
