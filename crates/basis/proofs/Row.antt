@@ -1,5 +1,4 @@
 -- The vector of a polynomial mono m + a7·xy + a4·y + a3·x + a0.
---   element-set            a store at a place that was 0 adds a multiple of a normal monomial
 --   Monomials p m …        m is the polynomial's degree: its lower terms stand below m, or are 0
 --   row-vec, row-present   the vector is a vector, monic of degree m
 --   row-value              it stands for the polynomial
@@ -31,7 +30,8 @@ use Rattle.vector.proofs.Product.{zeros-vec}
 use Rattle.triple.specs.Triple.{Present}
 use Rattle.basis.specs.Contract.{coefficients}
 
-pub element-set : (p : ℕ) (C : Curve (Z p)) {v : List ℕ} → Vec p v → (n c : ℕ) → c < p → n < width → IsPole n → at v n ≡ 0
+-- a store at a place that was 0 adds a multiple of a normal monomial
+element-set : (p : ℕ) (C : Curve (Z p)) {v : List ℕ} → Vec p v → (n c : ℕ) → c < p → n < width → IsPole n → at v n ≡ 0
     → element p C (set v n c) ≡ Coordinate C .add (Coordinate C .mul (scalar p C c) (mono C n)) (element p C v)
 element-set p C {v} h n c b l q z =
     coefficient-ext C (λ m. element-coefficient p C (vec-set h n c b l (λ g. absurd (q g))) m ∙ go m (ℕ-discrete m n) ∙ sym (right m))

@@ -2,8 +2,7 @@
 --   Scene                  an ideal J with a least element f and monic elements u and w of degrees d, d1 and d2, and the functional of f
 --   meets-one, meets-x, meets-y        J's leads d + 5, d + 2 and d + 1 meet those of 1, x and y at d + 5
 --   Solves n a4 a3 a0      the numbers solve the equations
---   candidate-member       then mono n + a4·y + a3·x + a0 is in (f : J)
---   colon-x, colon-one, colon-x-one, colon-y-one, colon-all        … without the terms whose numbers are zero: the polynomials of a record
+--   colon-x, colon-one, colon-x-one, colon-y-one, colon-all        then the candidate without the terms whose numbers are zero is in (f : J)
 use mathlib.Core.Path.{_≡_, refl, sym, _∙_, ap, subst}
 use mathlib.Core.Logic.{_⊎_, inl, inr}
 use Prim.Native.Nat.{ℕ, zero, suc, _+_, _*_, _-_, _/_, _<_, _≤_}
@@ -174,7 +173,7 @@ module _ (K : Field) (C : Curve (K .ring)) (nonzero : ¬ (C .a0 ≡ K .ring .zer
           zero : apply C N lam (g ⊗ w) ≡ 𝟘
           zero = equation-w K C N (S .functional) (S .room) n a4 a3 a0 w (w-below e) (subst (λ m. coefficient C m w ≡ 𝟙) e (S .w-monic)) (s .x-is e)
 
-      pub candidate-member : IsPole n → n ≤ 8 → Colon (Coordinate C) f J (candidate C n a4 a3 a0)
+      candidate-member : IsPole n → n ≤ 8 → Colon (Coordinate C) f J (candidate C n a4 a3 a0)
       candidate-member p l =
           let lowest = degrees-lowest (poles K C nonzero) J (S .degrees) in
           member K C nonzero N d (S .functional) (S .room) (S .f-pole) (S .ideal) (S .f-in) lowest g (candidate-below C n a4 a3 a0 p l)

@@ -1,7 +1,6 @@
 -- The numbers of a candidate mono n + a4·y + a3·x + a0: what the functional of f makes of its products with the elements u, w and v of pole
 -- numbers d + 1, d + 2 and d + 5.
 --   candidate-below        it has no monomial above y²
---   candidate-apply        the functional at a multiple of it
 --   equation-u             a4 = −c·Λ(mono n·u) makes Λ at its product with u zero; c is the inverse of twist 4 (d + 1)
 --   equation-w             … and a3 = −(a4·Λ(y·w) + Λ(mono n·w)) that with w
 --   equation-v             … and a0 = −(a3·Λ(x·v) + (a4·Λ(y·v) + Λ(mono n·v))) that with v
@@ -70,7 +69,8 @@ module _ {k : CommRing} (C : Curve k) where
   expand : (m a4 y a3 x a0 g : El) → (m ⊕ a4 ⊗ y ⊕ a3 ⊗ x ⊕ a0) ⊗ g ≡ m ⊗ g ⊕ a4 ⊗ (y ⊗ g) ⊕ a3 ⊗ (x ⊗ g) ⊕ a0 ⊗ g
   expand = solve (Coordinate C) 7 (λ m a4 y a3 x a0 g. (m ⊞ a4 ⊠ y ⊞ a3 ⊠ x ⊞ a0) ⊠ g) (λ m a4 y a3 x a0 g. m ⊠ g ⊞ a4 ⊠ (y ⊠ g) ⊞ a3 ⊠ (x ⊠ g) ⊞ a0 ⊠ g) tt
 
-  pub candidate-apply : (N : ℕ) (lam : ℕ → Car) (n : ℕ) (a4 a3 a0 : Car) (g : El)
+  -- the functional at a multiple of a candidate
+  candidate-apply : (N : ℕ) (lam : ℕ → Car) (n : ℕ) (a4 a3 a0 : Car) (g : El)
       → apply C N lam (candidate C n a4 a3 a0 ⊗ g) ≡ apply C N lam (mono C n ⊗ g) +ₖ a4 ·ₖ apply C N lam (mono C 4 ⊗ g) +ₖ a3 ·ₖ apply C N lam (mono C 3 ⊗ g) +ₖ a0 ·ₖ apply C N lam g
   unfolding candidate
   candidate-apply N lam n a4 a3 a0 g =

@@ -1,5 +1,4 @@
 -- The functional of f and the kernel of f: what the functional takes to 0 below d + 14 is in the kernel.
---   constant-of            an element without monomials from 1 on is a constant
 --   functional-kernel      apply lam h = 0 puts h in the kernel of f, for h below d + 14
 --   functional-low         the functional is 0 below d + 5
 --   functional-top         … and the coefficient at d + 5 of an element below d + 6
@@ -30,7 +29,8 @@ module _ (K : Field) (C : Curve (K .ring)) where
   infixl 60 _⊕_ _+ₖ_
   infixl 70 _⊗_ _·ₖ_
   infix 80 ⊖_ -ₖ_
-  pub constant-of : {a : El} → Below C 1 a → a ≡ constant C (coefficient C 0 a)
+  -- an element without monomials from 1 on is a constant
+  constant-of : {a : El} → Below C 1 a → a ≡ constant C (coefficient C 0 a)
   constant-of {a} b =
       L.sub-zero→eq (Coordinate C) a _ (below-none C (split C b))
       ∙ ap (λ u. constant C (coefficient C 0 a) ⊗ u) (CP.mono-zero K C)

@@ -1,5 +1,6 @@
 -- What star knows of its triple, whose span J is an ideal. j is the class of the least degree d; d1 and d2 are the degrees of the next classes.
 --   least-of               the class of the least degree, by three comparisons
+--   S                      the setting of the ground's curve
 --   degrees-of             the leads of J by the degrees
 --   in-span, member-monic, member-pole     each member is in J, monic of its degree
 --   least-element          the member of the class j is the least element of J

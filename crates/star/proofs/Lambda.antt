@@ -114,8 +114,8 @@ module _ {q : Pose} {ys : List (List ℕ)} (G : FunctionalAsked q ys) where
       more C g u o m = go (z .is C s d u refl)
         where
           go : Opposite q (twist C s d) (el p v) r → Begun C width g d (suc s) (res p next)
-          go (c, e, f) =
-              let new = ap (el p) (getD-set-same lam (d + s) r 0 inside) ∙ f ∙ ap (λ t. Z p .neg (Z p .mul c t)) (at-mono C g o w) in
+          go (c, e, i) =
+              let new = ap (el p) (getD-set-same lam (d + s) r 0 inside) ∙ i ∙ ap (λ t. Z p .neg (Z p .mul c t)) (at-mono C g o w) in
               begun-next C width (B .begun C g u o m) (below C g o) m from (omega (arith, G .high)) c e (λ n t. ap (el p) (others n t)) new
 
       next-vec : Vec p next

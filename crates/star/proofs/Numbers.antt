@@ -49,8 +49,8 @@ module _ {q : Pose} where
         go : (C : Curve (Z p)) (u : Coordinate C .Car) → Unit-of p unit C → RowsOf p C us u
             → Opposite q (twist C 4 (d + 1)) (Λ p C lam (Coordinate C .mul (mono C n) u)) r
         go C u i rows =
-            let (c, inverse, f) = o .is C 4 (d + 1) i (omega arith) in
-            (c, inverse, f ∙ ap (λ v. Z p .neg (Z p .mul c v)) (value-at-none w C u rows))
+            let (c, inverse, is) = o .is C 4 (d + 1) i (omega arith) in
+            (c, inverse, is ∙ ap (λ v. Z p .neg (Z p .mul c v)) (value-at-none w C u rows))
 
   module _ {lam : List ℕ} {ws : List (List ℕ)} {n a4 : ℕ} where
     pub term-x-none : 0 < p → ¬ (d2 ≡ d + 2) → TermX q lam ws n a4 0

@@ -1,5 +1,4 @@
 -- The divisor that star returns is the star of the triple's span.
---   pose-of                            what the parts of star share: the modulus, the inverse of −a0 and the three degrees
 --   functional-asked, posed-of         what star asks of functional and of by_kind
 --   starred-0                          the zero class is the star, where d2 is d + 8
 --   starred-by                         else the divisor of by_kind is
@@ -47,7 +46,8 @@ below-each [] _ h i = h
 below-each (n ∷ ns) (l, ls) h zero = l
 below-each (n ∷ ns) (l, ls) h (suc i) = below-each ns ls h i
 
-abbrev pub pose-of : Ground → List ℕ → ℕ → Pose
+-- what the parts of star share: the modulus, the inverse of −a0 and the three degrees
+abbrev pose-of : Ground → List ℕ → ℕ → Pose
 pose-of g d j = record { p = g .p; unit = g .unit; d = at d j; d1 = at d ((j + 1) % 3); d2 = at d ((j + 2) % 3) }
 
 module _ {g : Ground} {t : List (List ℕ)} {d : List ℕ} (A : StarAsked g t d) {j : ℕ} (L : LeastOf d j) where
@@ -72,7 +72,7 @@ module _ {g : Ground} {t : List (List ℕ)} {d : List ℕ} (A : StarAsked g t d)
   abbrev q : Pose
   q = pose-of g d j
 
-  pub functional-asked : ¬ (d₂ ≡ d₀ + 8) → {ys : List (List ℕ)} → YMultiples p (g .cube) (row t j) (d₀ + 1) ys → FunctionalAsked (pose-of g d j) ys
+  pub functional-asked : ¬ (d₂ ≡ d₀ + 8) → {ys : List (List ℕ)} → YMultiples p (g .cube) (row t j) (d₀ + 1) ys → FunctionalAsked q ys
   functional-asked some Y =
       record {
         large = prime-large p (S A .prime);
@@ -133,7 +133,7 @@ module _ {g : Ground} {t : List (List ℕ)} {d : List ℕ} (A : StarAsked g t d)
       (Y : YMultiples p (g .cube) (row t j) (d₀ + 1) ys)
       (U : YMultiples p (g .cube) (row t ((j + 1) % 3)) (d₁ + 1) us)
       (X : YMultiples p (g .cube) (row t ((j + 2) % 3)) (d₂ + 1) ws) where
-    pub posed-of : Posed (pose-of g d j) lam us ws
+    pub posed-of : Posed q lam us ws
     posed-of =
         record {
           u-posed = record {
@@ -208,7 +208,7 @@ module _ {g : Ground} {t : List (List ℕ)} {d : List ℕ} (A : StarAsked g t d)
     three-below : {n : ℕ} {r : Terms} (ns : List ℕ) → Solved q lam us ws n r → Every (λ m. m < p) ns → Every (λ m. m < p) (r .a0 ∷ r .a3 ∷ r .a4 ∷ ns)
     three-below ns s rest = (s .one-term .below, (s .x-term .below, (s .y-term .below, rest)))
 
-    pub starred-by : {r : Divisor} → ByKind (pose-of g d j) lam us ws r → Starred p (S A) t r
+    pub starred-by : {r : Divisor} → ByKind q lam us ws r → Starred p (S A) t r
     starred-by (is-11 f g u w sf sg e) =
         let first = colon-x K C (S A .nonzero) width scene (solves sf) w in
         let second = colon-one K C (S A .nonzero) width scene (mono-y C) pole-4 (omega arith) (solves sg) u w in
