@@ -41,5 +41,5 @@ rest-31 k31 a b c d s = refl
 
 pub chosen : {κ′ : Kind} {r : Divisor} {t : List (List ℕ)} {d : List ℕ} → IsTriple κ′ r t d
     → ((p : ℕ) (κ : Kind) → Shaped p κ r → κ′ ≡ κ) → TripleOf r t d
-chosen {κ′} {r} i f =
-    record { of = λ p κ q s. subst₃ (λ (ν : Kind) (u : List (List ℕ)) (e : List ℕ). Tripled p ν r u e) (f p κ s) (sym (i .is-t)) (sym (i .is-d)) (tripled (prime-large p q) r (s .below) κ′) }
+chosen {κ′} {r} i same =
+    record { of = λ p κ q s. subst₃ (λ (ν : Kind) (u : List (List ℕ)) (e : List ℕ). Tripled p ν r u e) (same p κ s) (sym (i .is-t)) (sym (i .is-d)) (tripled (prime-large p q) r (s .below) κ′) }

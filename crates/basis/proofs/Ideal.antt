@@ -1,6 +1,4 @@
 -- The span of a record's triple.
---   triple-member          the j-th vector stands for the j-th member
---   triple-spanned         the span of the triple is the span of the members
 --   triple-least           its least degree is at most 6
 --   triple-closed          a triple that is closed under y is that of a basis
 --   triple-open            a triple that is not is that of no basis
@@ -28,10 +26,10 @@ use Rattle.triple.specs.Triple.{Spanned}
 use Rattle.triple.specs.Contract.{Open}
 use Rattle.basis.specs.declared.Divisor.{Divisor}
 use Rattle.basis.specs.Divisor.{residues, Based}
-use Rattle.basis.specs.Contract.{degrees, Tripled}
+use Rattle.basis.specs.Contract.{three-degrees, Tripled}
 
 module _ {p : ℕ} {κ : Kind} {r : Divisor} {t : List (List ℕ)} {d : List ℕ} (h : Tripled p κ r t d) where
-  pub triple-member : (C : Curve (Z p)) (j : ℕ) → j ≤ 2 → element p C (row t j) ≡ member C κ (residues p r) j
+  triple-member : (C : Curve (Z p)) (j : ℕ) → j ≤ 2 → element p C (row t j) ≡ member C κ (residues p r) j
   triple-member C j l =
       sym (List·getD-map (element p C) t j [])
       ∙ ap (λ gs. getD gs j (element p C [])) (h .members-are C)
@@ -43,10 +41,10 @@ module _ {p : ℕ} {κ : Kind} {r : Divisor} {t : List (List ℕ)} {d : List ℕ
       listed (suc (suc zero)) l = refl
       listed (suc (suc (suc j))) l = absurd (omega arith)
 
-  pub triple-degree : (j : ℕ) → j ≤ 2 → at d j ≡ degree κ j
+  triple-degree : (j : ℕ) → j ≤ 2 → at d j ≡ degree κ j
   triple-degree j l = ap (λ e. at e j) (h .degrees-are) ∙ listed j l
     where
-      listed : (j : ℕ) → j ≤ 2 → at (degrees κ) j ≡ degree κ j
+      listed : (j : ℕ) → j ≤ 2 → at (three-degrees κ) j ≡ degree κ j
       listed zero l = refl
       listed (suc zero) l = refl
       listed (suc (suc zero)) l = refl
@@ -59,7 +57,7 @@ module _ {p : ℕ} {κ : Kind} {r : Divisor} {t : List (List ℕ)} {d : List ℕ
     abbrev C : Curve (Z p)
     C = S .curve
 
-    pub triple-spanned : Spanned S t ≡ Span (poles-of S) (members C κ (residues p r))
+    triple-spanned : Spanned S t ≡ Span (poles-of S) (members C κ (residues p r))
     triple-spanned = ap (Span (poles-of S)) (h .members-are C)
 
     there : (g : ring S .Car) → Spanned S t g → Span (poles-of S) (members C κ (residues p r)) g
@@ -67,7 +65,8 @@ module _ {p : ℕ} {κ : Kind} {r : Divisor} {t : List (List ℕ)} {d : List ℕ
 
     pub triple-closed : ((j : ℕ) → j < 3 → Spanned S t (ring S .mul (y C) (element p C (row t j)))) → IsBasis C κ (residues p r)
     triple-closed c =
-        B.closed-basis (F p (S .prime)) C (S .nonzero) κ (residues p r) (λ j l. subst (λ u. Span (poles-of S) (members C κ (residues p r)) (ring S .mul (y C) u)) (triple-member C j l) (there _ (c j (omega arith))))
+        B.closed-basis (F p (S .prime)) C (S .nonzero) κ (residues p r)
+        (λ j l. subst (λ u. Span (poles-of S) (members C κ (residues p r)) (ring S .mul (y C) u)) (triple-member C j l) (there _ (c j (omega arith))))
 
     module _ (b : IsBasis C κ (residues p r)) where
       based-closed : B.Closed (F p (S .prime)) C (S .nonzero) κ (residues p r)
@@ -79,8 +78,8 @@ module _ {p : ℕ} {κ : Kind} {r : Divisor} {t : List (List ℕ)} {d : List ℕ
       pub based-same : SameIdeal (ring S) (Spanned S t) (IdealOf C κ (residues p r))
       based-same = subst (λ (U : ring S .Car → Type 0). SameIdeal (ring S) U (IdealOf C κ (residues p r))) (sym triple-spanned) (B.basis-same (F p (S .prime)) C (S .nonzero) κ (residues p r) b)
 
-  module _ {f : List ℕ} (R : Ready p f) where
-    pub triple-open : Open p f t d R → ¬ IsBasis (R .setting .curve) κ (residues p r)
+  module _ {cube : List ℕ} (R : Ready p cube) where
+    pub triple-open : Open p cube t d R → ¬ IsBasis (R .setting .curve) κ (residues p r)
     triple-open o =
         B.open-not-basis (F p (R .setting .prime)) (R .setting .curve) (R .setting .nonzero) κ (residues p r) (o .j) (omega (arith, o .j-below)) (o .rest) (o .s)
         (ap (ring (R .setting) .mul (y (R .setting .curve))) (sym (triple-member (R .setting .curve) (o .j) (omega (arith, o .j-below)))) ∙ o .split)

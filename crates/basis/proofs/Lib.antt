@@ -4,4 +4,3 @@ pub mod Member
 pub mod Choice
 pub mod Ideal
 pub mod Test
-pub mod Pair

@@ -26,7 +26,7 @@ use Rattle.triple.specs.Triple.{Present, Full}
 use Rattle.triple.specs.Contract.{Small}
 use Rattle.basis.specs.declared.Divisor.{Divisor}
 use Rattle.basis.specs.Divisor.{numbers, residues, Shaped}
-use Rattle.basis.specs.Contract.{coefficients, vectors, degrees, Tripled}
+use Rattle.basis.specs.Contract.{coefficients, vectors, three-degrees, Tripled}
 use Rattle.basis.proofs.Row.{Monomials, row-vec, row-present, row-value}
 
 -- M + a7·xy + a4·y + a3·x + a0
@@ -85,7 +85,7 @@ full-of {p} {d₀} {d₁} {d₂} {v₀} {v₁} {v₂} a b c pa pb pc =
     vec (suc (suc zero)) l = c
     vec (suc (suc (suc j))) l = absurd (omega arith)
 
-small-of : (κ : Kind) → Small (degrees κ)
+small-of : (κ : Kind) → Small (three-degrees κ)
 small-of κ zero l = omega (arith, degree-bound κ 0 (omega arith))
 small-of κ (suc zero) l = omega (arith, degree-bound κ 1 (omega arith))
 small-of κ (suc (suc zero)) l = degree-bound κ 2 (omega arith)
@@ -93,12 +93,12 @@ small-of κ (suc (suc (suc j))) l = absurd (omega arith)
 
 -- three vectors that stand for the members of a record
 record Rows (p : ℕ) (κ : Kind) (r : Divisor) (v₀ v₁ v₂ : List ℕ) : Type 0 where
-  full : Full p (v₀ ∷ v₁ ∷ v₂ ∷ []) (degrees κ)
+  full : Full p (v₀ ∷ v₁ ∷ v₂ ∷ []) (three-degrees κ)
   value₀ : (C : Curve (Z p)) → element p C v₀ ≡ member C κ (residues p r) 0
   value₁ : (C : Curve (Z p)) → element p C v₁ ≡ member C κ (residues p r) 1
   value₂ : (C : Curve (Z p)) → element p C v₂ ≡ member C κ (residues p r) 2
 
-rows-tripled : {p : ℕ} {κ : Kind} {r : Divisor} {v₀ v₁ v₂ : List ℕ} → Rows p κ r v₀ v₁ v₂ → Tripled p κ r (v₀ ∷ v₁ ∷ v₂ ∷ []) (degrees κ)
+rows-tripled : {p : ℕ} {κ : Kind} {r : Divisor} {v₀ v₁ v₂ : List ℕ} → Rows p κ r v₀ v₁ v₂ → Tripled p κ r (v₀ ∷ v₁ ∷ v₂ ∷ []) (three-degrees κ)
 rows-tripled {κ = κ} h =
     record {
       full = h .full;
@@ -207,7 +207,7 @@ module _ {p : ℕ} (large : 1 < p) (r : Divisor) (below : (i : ℕ) → at (numb
       c : Monomials p 8 (r .n6) (r .n7) (r .n8) 0
       c = omega (arith, below 6, below 7, below 8)
 
-  pub tripled : (κ : Kind) → Tripled p κ r (vectors κ r) (degrees κ)
+  pub tripled : (κ : Kind) → Tripled p κ r (vectors κ r) (three-degrees κ)
   tripled k0 = rows-tripled rows-0
   tripled k11 = rows-tripled rows-11
   tripled k21 = rows-tripled rows-21

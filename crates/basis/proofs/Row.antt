@@ -1,5 +1,4 @@
 -- The vector of a polynomial mono m + a7·xy + a4·y + a3·x + a0.
---   element-set            a store at a place that was 0 adds a multiple of a normal monomial
 --   Monomials p m …        m is the polynomial's degree: its lower terms stand below m, or are 0
 --   row-vec, row-present   the vector is a vector, monic of degree m
 --   row-value              it stands for the polynomial
@@ -32,7 +31,8 @@ use Rattle.vector.proofs.Product.{zeros-vec}
 use Rattle.triple.specs.Triple.{Present}
 use Rattle.basis.specs.Contract.{coefficients}
 
-pub element-set : (p : ℕ) (C : Curve (Z p)) {v : List ℕ} → Vec p v → (n c : ℕ) → c < p → n < width → IsPole n → at v n ≡ 0
+-- a store at a place that was 0 adds a multiple of a normal monomial
+element-set : (p : ℕ) (C : Curve (Z p)) {v : List ℕ} → Vec p v → (n c : ℕ) → c < p → n < width → IsPole n → at v n ≡ 0
     → element p C (set v n c) ≡ Coordinate C .add (Coordinate C .mul (scalar p C c) (mono C n)) (element p C v)
 element-set p C {v} h n c b l q z =
     coefficient-ext C (λ m. element-coefficient p C (vec-set h n c b l (λ g. absurd (q g))) m ∙ go m (ℕ-discrete m n) ∙ sym (right m))
@@ -136,7 +136,10 @@ module _ {p m a0 a3 a4 a7 : ℕ} (h : Monomials p m a0 a3 a4 a7) where
   low : Top v₄ m
   unfolding v₄ v₃ v₂ v₁ v₀
   low =
-      top-set v₃ m 7 a7 (omega (arith, h₃ .len)) (top-set v₂ m 4 a4 (omega (arith, h₂ .len)) (top-set v₁ m 3 a3 (omega (arith, h₁ .len)) (top-set v₀ m 0 a0 (omega (arith, h₀ .len)) (λ i l. zeros-at width i) (h .zero-0)) (h .zero-3)) (h .zero-4)) (h .zero-7)
+      let at-0 = top-set v₀ m 0 a0 (omega (arith, h₀ .len)) (λ i l. zeros-at width i) (h .zero-0) in
+      let at-3 = top-set v₁ m 3 a3 (omega (arith, h₁ .len)) at-0 (h .zero-3) in
+      let at-4 = top-set v₂ m 4 a4 (omega (arith, h₂ .len)) at-3 (h .zero-4) in
+      top-set v₃ m 7 a7 (omega (arith, h₃ .len)) at-4 (h .zero-7)
 
   pub row-present : Present (coefficients m a0 a3 a4 a7) (m % 3) m
   unfolding coefficients v₄ v₃ v₂ v₁ v₀
@@ -183,5 +186,6 @@ module _ {p m a0 a3 a4 a7 : ℕ} (h : Monomials p m a0 a3 a4 a7) where
         element-set p C h₄ m 1 (h .large) (h .inside) pole-m (low m (omega arith))
         ∙ ap₂ _⊕_ (ap (λ u. u ⊗ mono C m) (ap (constant C) (el-one p) ∙ constant-one C) ∙ L.one-mul (Coordinate C) _) (value-7 ∙ lower)
       where
-        lower : scalar p C a7 ⊗ mono C 7 ⊕ (scalar p C a4 ⊗ mono C 4 ⊕ (scalar p C a3 ⊗ mono C 3 ⊕ (scalar p C a0 ⊗ mono C 0 ⊕ 𝟎))) ≡ scalar p C a7 ⊗ (x C ⊗ y C) ⊕ (scalar p C a4 ⊗ y C ⊕ (scalar p C a3 ⊗ x C ⊕ scalar p C a0))
+        lower : scalar p C a7 ⊗ mono C 7 ⊕ (scalar p C a4 ⊗ mono C 4 ⊕ (scalar p C a3 ⊗ mono C 3 ⊕ (scalar p C a0 ⊗ mono C 0 ⊕ 𝟎)))
+            ≡ scalar p C a7 ⊗ (x C ⊗ y C) ⊕ (scalar p C a4 ⊗ y C ⊕ (scalar p C a3 ⊗ x C ⊕ scalar p C a0))
         lower = cc (mono-one C, mono-x C, mono-y C, mono-xy C, Coordinate C .add-zero (scalar p C a0), Coordinate C .mul-one (scalar p C a0))

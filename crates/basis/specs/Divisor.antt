@@ -1,4 +1,6 @@
 -- A divisor by value: the kind and the numbers of a record.
+--   of-four k n0 … n3  the divisor of the kind with the number k that has four numbers at most
+--   divisor-0          the divisor of the kind 0, whose ideal is the whole ring
 --   numbers r          the nine numbers
 --   residues p r       their residues modulo p, by place
 --   Shaped p κ r       r has the kind κ, and its numbers are below p
@@ -12,6 +14,12 @@ use Rattle.curve.specs.Curve.{Curve}
 use Rattle.divisor.specs.Kind.{Kind, code, IsBasis}
 use Rattle.vector.specs.Vector.{at}
 use Rattle.basis.specs.declared.Divisor.{Divisor}
+
+abbrev pub of-four : (kind n0 n1 n2 n3 : ℕ) → Divisor
+of-four kind n0 n1 n2 n3 = record { kind = kind; n0 = n0; n1 = n1; n2 = n2; n3 = n3; n4 = 0; n5 = 0; n6 = 0; n7 = 0; n8 = 0 }
+
+abbrev pub divisor-0 : Divisor
+divisor-0 = of-four 0 0 0 0 0
 
 abbrev pub numbers : Divisor → List ℕ
 numbers r = r .n0 ∷ r .n1 ∷ r .n2 ∷ r .n3 ∷ r .n4 ∷ r .n5 ∷ r .n6 ∷ r .n7 ∷ r .n8 ∷ []

@@ -4,6 +4,7 @@ ghost use mathlib.Core.Path.{_≡_};
 ghost use Prim.Native.Nat.{_<_};
 ghost use Rattle.divisor.specs.Kind.{k0, k11, k21, k22, k31};
 ghost use Rattle.vector.specs.Vector.{width};
+ghost use Rattle.basis.specs.Divisor.{of-four, divisor-0};
 ghost use Rattle.basis.specs.Contract.{coefficients, IsTriple, TripleOf, BasisAsked, BasisTest};
 
 pub struct Divisor {
@@ -17,6 +18,31 @@ pub struct Divisor {
     pub n6: u32,
     pub n7: u32,
     pub n8: u32,
+}
+
+// The divisor of a kind that has four numbers at most.
+pub fn of_four(kind: u32, n0: u32, n1: u32, n2: u32, n3: u32) -> Divisor
+    ensures { λ r. ⌜ r ≡ of-four kind n0 n1 n2 n3 ⌝ }
+{
+    Divisor {
+        kind,
+        n0,
+        n1,
+        n2,
+        n3,
+        n4: 0,
+        n5: 0,
+        n6: 0,
+        n7: 0,
+        n8: 0,
+    }
+}
+
+// The divisor of the kind 0: the zero class.
+pub fn zero_class() -> Divisor
+    ensures { λ r. ⌜ r ≡ divisor-0 ⌝ }
+{
+    of_four(0, 0, 0, 0, 0)
 }
 
 // The monic vector of degree m with the lower terms a7·xy + a4·y + a3·x + a0.

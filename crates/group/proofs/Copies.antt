@@ -1,9 +1,5 @@
 -- Multiples by doubling and adding. A turn keeps that r and b stand for i and j copies of a with i + n·j = m.
---   copies-ideal           a divisor's ideal is an ideal, for each copy
---   copies-none            the zero class stands for no copy
---   copies-one             a stands for one copy of itself
---   copies-sum             the sum of i and j copies stands for i + j copies
---   Held S a D m w r b n   r stands for i and b for j copies, and i + n·(w·j) = m
+--   Held G D m w r b n   r stands for i and b for j copies, and i + n·(w·j) = m
 --   held-add, held-twice   r and b, or b and b, may be added
 --   held-start             at the start r is the zero class, b is a and n is m
 --   held-odd, held-even    b is added to r if n is odd, and n halved
@@ -50,21 +46,26 @@ module _ {g : Ground} (G : Grounded g) {a : Divisor} (D : IsDivisor (G .ready .s
   abbrev I : Unit {0} → ring S .Car → Type 0
   I _ = ideal S a D
 
+  -- a divisor's ideal is an ideal, for each copy
   copies-ideal : (m : ℕ) → Every (λ (u : Unit {0}). IsIdeal (ring S) (I u)) (replicate m tt)
   copies-ideal zero = tt
   copies-ideal (suc m) = (divisor-footprint S D .ideal, copies-ideal m)
 
-  pub copies-none : {r : Divisor} → ZeroClass r → IsMultiple S a D 0 r
+  -- the zero class stands for no copy
+  copies-none : {r : Divisor} → ZeroClass r → IsMultiple S a D 0 r
   copies-none z = (zero-divisor S z, equivalent-same (poles-of S) (kind-zero S (zero-divisor S z) (z .kind)))
 
-  pub copies-one : IsMultiple S a D 1 a
+  -- a stands for one copy of itself
+  copies-one : IsMultiple S a D 1 a
   copies-one = (D, equivalent-same (poles-of S) (productof-one (ring S) I tt (divisor-footprint S D .ideal)))
 
-  pub copies-sum : (i j : ℕ) {x y r : Divisor} → IsMultiple S a D i x → IsMultiple S a D j y → SumOf g x y r → IsMultiple S a D (i + j) r
+  -- the sum of i and j copies stands for i + j copies
+  copies-sum : (i j : ℕ) {x y r : Divisor} → IsMultiple S a D i x → IsMultiple S a D j y → SumOf g x y r → IsMultiple S a D (i + j) r
   copies-sum i j (X, e) (Y, e′) s =
       let z = sum-equivalent s (record { grounded = G; a-is = X; b-is = Y }) in
       let join = productof-join (poles-of S) I (replicate i tt) (replicate j tt) (copies-ideal i) (copies-ideal j) (equivalent-sym (poles-of S) e) (equivalent-sym (poles-of S) e′) in
-      (z .0, subst (λ us. Equivalent (ring S) (ProductOf (ring S) I us) (ideal S _ (z .0))) (replicate-append-replicate i j tt) (equivalent-trans (poles-of S) (equivalent-sym (poles-of S) join) (z .1)))
+      let all = equivalent-trans (poles-of S) (equivalent-sym (poles-of S) join) (z .1) in
+      (z .0, subst (λ us. Equivalent (ring S) (ProductOf (ring S) I us) (ideal S _ (z .0))) (replicate-append-replicate i j tt) all)
 
   pub record Held (m w : ℕ) (r b : Divisor) (n : ℕ) : Type 0 where
     pub i : ℕ

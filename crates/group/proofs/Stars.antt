@@ -1,5 +1,4 @@
 -- What star is asked for and what it gives, for the triple of a divisor and for the product of two.
---   star-same              the star of J is that of a set with the same elements
 --   negative-asked         the span of a divisor's triple is an ideal with a lead of at most 6
 --   negative-of            … so the star of the triple is the star of the divisor's ideal
 --   product-asked          the triples of two divisors may be multiplied
@@ -10,12 +9,11 @@ use Prim.Native.Nat.{ℕ, _≤_}
 use native.Mathlib.Omega.{arith}
 use Rattle.algebra.specs.Ring.{CommRing}
 use Rattle.ideal.specs.Ideal.{SameIdeal, Product}
-use Rattle.ideal.specs.Poles.{Poles}
 use Rattle.ideal.specs.Reduced.{IsStar}
-use Rattle.ideal.proofs.Same.{same-sym, same-trans, ideal-same}
+use Rattle.ideal.proofs.Same.{same-refl, same-sym, same-trans, ideal-same}
 use Rattle.ideal.proofs.Degree.{pole-mul}
-use Rattle.ideal.proofs.Leads.{Lead, least-same}
-use Rattle.ideal.proofs.Colon.{colon-same}
+use Rattle.ideal.proofs.Leads.{Lead}
+use Rattle.ideal.proofs.Star.{star-same}
 use Rattle.ideal.proofs.Product.{product-of, product-ideal, product-same}
 use Rattle.vector.specs.Vector.{at}
 use Rattle.triple.specs.Setting.{Setting, ring, poles-of}
@@ -30,12 +28,10 @@ use Rattle.star.specs.Contract.{StarAsked, Starred, StarOf}
 use Rattle.group.specs.Contract.{IsDivisor, ideal, NegativeAsked, NegativeOf, SumAsked, ProductStarOf}
 use Rattle.group.proofs.Divisor.{divisor-footprint, divisor-tripled, divisor-span, divisor-same}
 
-pub star-same : {R : CommRing} (P : Poles R) {J J′ K : R .Car → Type 0} → SameIdeal R J J′ → IsStar P J K → IsStar P J′ K
-star-same {R} P e s = record { f = s .f; least = least-same P e (s .least); same = same-trans R (s .same) (colon-same R (s .f) e) }
-
 -- a star of a set that has the same elements as J
-starred : {p : ℕ} {S : Setting p} {t : List (List ℕ)} {r : Divisor} {J : ring S .Car → Type 0} → SameIdeal (ring S) (Spanned S t) J → Starred p S t r → (D : IsDivisor S r) × IsStar (poles-of S) J (ideal S r D)
-starred {S = S} e q = (record { kind = q .kind; based = q .based }, star-same (poles-of S) e (q .star))
+starred : {p : ℕ} {S : Setting p} {t : List (List ℕ)} {r : Divisor} {J : ring S .Car → Type 0} → SameIdeal (ring S) (Spanned S t) J → Starred p S t r
+    → (D : IsDivisor S r) × IsStar (poles-of S) J (ideal S r D)
+starred {S = S} e q = (record { kind = q .kind; based = q .based }, star-same (poles-of S) e (same-refl (ring S) _) (q .star))
 
 module _ {g : Ground} {a : Divisor} {t : List (List ℕ)} {d : List ℕ} (h : TripleOf a t d) where
   pub negative-asked : NegativeAsked g a → StarAsked g t d
@@ -44,7 +40,7 @@ module _ {g : Ground} {a : Divisor} {t : List (List ℕ)} {d : List ℕ} (h : Tr
         grounded = A .grounded;
         full = divisor-tripled (A .grounded .ready .setting) (A .a-is) h .full;
         ideal = divisor-span (A .grounded .ready .setting) (A .a-is) h;
-        small = (0, omega arith, omega (arith, triple-least (divisor-tripled (A .grounded .ready .setting) (A .a-is) h)));
+        low = (0, omega arith, omega (arith, triple-least (divisor-tripled (A .grounded .ready .setting) (A .a-is) h)));
       }
 
   pub negative-of : {r : Divisor} → StarOf g t d r → NegativeOf g a r
@@ -81,7 +77,7 @@ module _ {g : Ground} {a b : Divisor} {t₁ t₂ : List (List ℕ)} {d₁ d₂ :
           grounded = A .grounded;
           full = m .full;
           ideal = ideal-same (ring S) (same-sym (ring S) span-product) (product-ideal (ring S) (divisor-footprint S (A .a-is) .ideal));
-          small = (0, omega arith, low (divisor-footprint S (A .a-is) .leads 6 (omega arith)) (divisor-footprint S (A .b-is) .leads 6 (omega arith)));
+          low = (0, omega arith, low (divisor-footprint S (A .a-is) .leads 6 (omega arith)) (divisor-footprint S (A .b-is) .leads 6 (omega arith)));
         }
 
   pub product-star-of : {t : List (List ℕ)} {d : List ℕ} {r : Divisor} → Multiplied (g .p) (g .cube) t₁ t₂ t d → StarOf g t d r → ProductStarOf g a b r

@@ -44,7 +44,8 @@ module _ {g : Ground} {a b : Divisor} where
       (A .a-is, equivalent-reduced (poles-of S) (divisor-footprint S (A .a-is)) (equivalent-same (poles-of S) (same-trans (ring S) (product-comm (ring S)) (whole-times S (A .b-is) (A .a-is) e))))
 
   pub sum-equivalent : {r : Divisor} → SumOf g a b r → (A : SumAsked g a b)
-      → (D : IsDivisor (A .grounded .ready .setting) r) × Equivalent (ring (A .grounded .ready .setting)) (Product (ring (A .grounded .ready .setting)) (ideal (A .grounded .ready .setting) a (A .a-is)) (ideal (A .grounded .ready .setting) b (A .b-is))) (ideal (A .grounded .ready .setting) r D)
+      → let S = A .grounded .ready .setting in
+      (D : IsDivisor S r) × Equivalent (ring S) (Product (ring S) (ideal S a (A .a-is)) (ideal S b (A .b-is))) (ideal S r D)
   sum-equivalent {r} h A =
       let s = h A in
       let S = A .grounded .ready .setting in

@@ -72,16 +72,5 @@ pub fn multiple(g: Ground, a: Divisor, m: u64) -> Divisor
 pub fn zero_class() -> Divisor
     ensures { λ r. ⌜ ZeroClass r ⌝ }
 {
-    Divisor {
-        kind: 0,
-        n0: 0,
-        n1: 0,
-        n2: 0,
-        n3: 0,
-        n4: 0,
-        n5: 0,
-        n6: 0,
-        n7: 0,
-        n8: 0,
-    }
+    basis::zero_class()
 }

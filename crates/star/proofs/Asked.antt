@@ -1,5 +1,6 @@
 -- What star knows of its triple, whose span J is an ideal. j is the class of the least degree d; d1 and d2 are the degrees of the next classes.
 --   least-of               the class of the least degree, by three comparisons
+--   S                      the setting of the ground's curve
 --   degrees-of             the leads of J by the degrees
 --   in-span, member-monic, member-pole     each member is in J, monic of its degree
 --   least-element          the member of the class j is the least element of J
@@ -26,9 +27,9 @@ use Rattle.triple.specs.Triple.{Present, Spanned}
 use Rattle.triple.proofs.Element.{present-monic}
 use Rattle.triple.proofs.Members.{spanned-row}
 use Rattle.triple.proofs.Leads.{spanned-lead}
+use Rattle.functional.proofs.Degrees.{Degrees, degrees-lowest, Steps, steps-31, steps-21, steps-22, steps-11, steps-0, steps}
 use Rattle.ground.specs.declared.Ground.{Ground}
 use Rattle.star.specs.Contract.{StarAsked, LeastOf}
-use Rattle.star.proofs.Degrees.{Degrees, degrees-lowest, Steps, steps-31, steps-21, steps-22, steps-11, steps-0, steps}
 
 pub least-of : {d : List ℕ} {j : ℕ} → j < 3 → at d j ≤ at d 0 → at d j ≤ at d 1 → at d j ≤ at d 2 → LeastOf d j
 least-of {d} {j} h a b c = record { inside = h; lowest = go }
@@ -60,6 +61,9 @@ module _ {g : Ground} {t : List (List ℕ)} {d : List ℕ} (A : StarAsked g t d)
 
   pub member-pole : (i : ℕ) → i < 3 → HasPole (poles-of S) (element p (S .curve) (row t i)) (at d i)
   member-pole i h = monic-pole (poles-of S) (member-monic i h)
+
+  member-lead : (i : ℕ) → i < 3 → Lead (poles-of S) (Spanned S t) (at d i)
+  member-lead i h = (element p (S .curve) (row t i), in-span i h, member-pole i h)
 
   pub y-asked : (i : ℕ) → i < 3 → at d i ≤ 17 → YMultiplesAsked p (g .cube) (row t i) (at d i + 1)
   y-asked i h l =
@@ -99,8 +103,7 @@ module _ {g : Ground} {t : List (List ℕ)} {d : List ℕ} (A : StarAsked g t d)
         }
 
     pub steps-of : Steps (d₀) (d₁) (d₂)
-    steps-of =
-        steps (poles-of S) (Spanned S t) degrees-of (A .ideal) (element p (S .curve) (row t j), in-span j (L .inside), member-pole j (L .inside)) (element p (S .curve) (row t ((j + 1) % 3)), in-span ((j + 1) % 3) first, member-pole ((j + 1) % 3) first)
+    steps-of = steps (poles-of S) (Spanned S t) degrees-of (A .ideal) (member-lead j (L .inside)) (member-lead ((j + 1) % 3) first)
 
     pub least-element : Least (poles-of S) (Spanned S t) (element p (S .curve) (row t j))
     least-element =
@@ -112,7 +115,7 @@ module _ {g : Ground} {t : List (List ℕ)} {d : List ℕ} (A : StarAsked g t d)
         }
 
     pub least-small : d₀ ≤ 12
-    least-small = go (A .small)
+    least-small = go (A .low)
       where
         go : (i : ℕ) × (i < 3) × (at d i ≤ 12) → d₀ ≤ 12
         go (i, h, l) = omega (arith, L .lowest i h)

@@ -1,14 +1,6 @@
--- The functional of f and its kernel, the equations of the star's numbers, the degrees of an ideal's triple.
-pub mod Total
-pub mod Apply
-pub mod Kernel
-pub mod Build
-pub mod Equations
-pub mod Member
-pub mod Degrees
+-- The functional and the numbers of the star as the code computes them; what is known of a triple; the divisor is the star.
 pub mod Pairing
 pub mod Numbers
 pub mod Lambda
-pub mod Candidate
 pub mod Asked
 pub mod Result

@@ -15,61 +15,65 @@ use Rattle.curve.specs.Curve.{Curve, Coordinate}
 use Rattle.curve.specs.Monomial.{mono}
 use Rattle.curve.specs.Sequence.{twist}
 use Rattle.curve.proofs.Lead.{twist-one, twist-turn}
-use Rattle.vector.specs.Vector.{res, width}
 use Rattle.vector.specs.Contract.{RowsOf}
 use Rattle.ground.specs.Ground.{Unit-of}
-use Rattle.star.specs.Functional.{apply}
-use Rattle.star.specs.Contract.{ValueAt, OppositeOf, TermY, TermX, TermOne}
+use Rattle.star.specs.declared.Pose.{Pose}
+use Rattle.star.specs.declared.Values.{Values}
+use Rattle.star.specs.Lambda.{Λ, ValueAt, Opposite, OppositeOf}
+use Rattle.star.specs.Parts.{ValuesOf, TermY, TermX, TermOne}
 use Rattle.star.proofs.Pairing.{value-at-none}
 
-pub opposite-one : {p k m v r : ℕ} → m < 3 → Is p r (Z p .neg (el p v)) → OppositeOf p k m v r
-opposite-one {p} {k} {m} {v} {r} h i = record { below = i .below; is = go }
-  where
-    go : (C : Curve (Z p)) (a b : ℕ) → Unit-of p k C → a % 3 + b % 3 ≡ m
-        → (c : Z p .Car) × (Z p .mul c (twist C a b) ≡ Z p .one) × (el p r ≡ Z p .neg (Z p .mul c (el p v)))
-    go C a b u e =
-        (Z p .one, ap (Z p .mul (Z p .one)) (twist-one C a b (omega arith)) ∙ Z p .mul-one _, i .is ∙ ap (Z p .neg) (sym (L.one-mul (Z p) _)))
+module _ {q : Pose} where
+  open Pose q using (p, unit, d, d1, d2)
 
-pub opposite-turn : {p k m v w r : ℕ} → 3 ≤ m → Is p w (Z p .mul (el p k) (el p v)) → Is p r (Z p .neg (el p w)) → OppositeOf p k m v r
-opposite-turn {p} {k} {m} {v} {w} {r} h j i = record { below = i .below; is = go }
-  where
-    go : (C : Curve (Z p)) (a b : ℕ) → Unit-of p k C → a % 3 + b % 3 ≡ m
-        → (c : Z p .Car) × (Z p .mul c (twist C a b) ≡ Z p .one) × (el p r ≡ Z p .neg (Z p .mul c (el p v)))
-    go C a b u e =
-        (el p k, ap (Z p .mul (el p k)) (twist-turn C a b (omega arith)) ∙ u .inverse, i .is ∙ ap (Z p .neg) (j .is))
+  pub opposite-one : {m v r : ℕ} → m < 3 → Is p r (Z p .neg (el p v)) → OppositeOf q m v r
+  opposite-one {m} {v} {r} h i = record { below = i .below; is = go }
+    where
+      go : (C : Curve (Z p)) (a b : ℕ) → Unit-of p unit C → a % 3 + b % 3 ≡ m → Opposite q (twist C a b) (el p v) r
+      go C a b u e =
+          (Z p .one, ap (Z p .mul (Z p .one)) (twist-one C a b (omega arith)) ∙ Z p .mul-one _, i .is ∙ ap (Z p .neg) (sym (L.one-mul (Z p) _)))
 
-pub term-y-none : {p k d d1 n : ℕ} {lam : List ℕ} {us : List (List ℕ)} → 0 < p → ¬ (d1 ≡ d + 1) → TermY p k lam us d d1 n 0
-term-y-none h u = record { below = h; none = λ _. refl; is = λ e. absurd (u e) }
+  pub opposite-turn : {m v w r : ℕ} → 3 ≤ m → Is p w (Z p .mul (el p unit) (el p v)) → Is p r (Z p .neg (el p w)) → OppositeOf q m v r
+  opposite-turn {m} {v} {w} {r} h j i = record { below = i .below; is = go }
+    where
+      go : (C : Curve (Z p)) (a b : ℕ) → Unit-of p unit C → a % 3 + b % 3 ≡ m → Opposite q (twist C a b) (el p v) r
+      go C a b u e =
+          (el p unit, ap (Z p .mul (el p unit)) (twist-turn C a b (omega arith)) ∙ u .inverse, i .is ∙ ap (Z p .neg) (j .is))
 
-pub term-y-some : {p k d d1 n a r : ℕ} {lam : List ℕ} {us : List (List ℕ)} → d1 ≡ d + 1
-    → ValueAt p lam us n 0 a → OppositeOf p k (1 + d1 % 3) a r → TermY p k lam us d d1 n r
-term-y-some {p} {k} {d} {d1} {n} {a} {r} {lam} {us} e w o = record { below = o .below; none = λ u. absurd (u e); is = λ _. go }
-  where
-    go : (C : Curve (Z p)) (u : Coordinate C .Car) → Unit-of p k C → RowsOf p C us u
-        → (c : Z p .Car) × (Z p .mul c (twist C 4 (d + 1)) ≡ Z p .one) × (el p r ≡ Z p .neg (Z p .mul c (apply C width (res p lam) (Coordinate C .mul (mono C n) u))))
-    go C u i rows = found (o .is C 4 (d + 1) i (omega arith))
+  module _ {lam : List ℕ} {us : List (List ℕ)} {n : ℕ} where
+    pub term-y-none : 0 < p → ¬ (d1 ≡ d + 1) → TermY q lam us n 0
+    term-y-none h u = record { below = h; none = λ _. refl; is = λ e. absurd (u e) }
+
+    pub term-y-some : {a r : ℕ} → d1 ≡ d + 1 → ValueAt q lam us n 0 a → OppositeOf q (1 + d1 % 3) a r → TermY q lam us n r
+    term-y-some {a} {r} e w o = record { below = o .below; none = λ u. absurd (u e); is = λ _. go }
       where
-        found : (c : Z p .Car) × (Z p .mul c (twist C 4 (d + 1)) ≡ Z p .one) × (el p r ≡ Z p .neg (Z p .mul c (el p a)))
-            → (c : Z p .Car) × (Z p .mul c (twist C 4 (d + 1)) ≡ Z p .one) × (el p r ≡ Z p .neg (Z p .mul c (apply C width (res p lam) (Coordinate C .mul (mono C n) u))))
-        found (c, q, f) = (c, q, f ∙ ap (λ v. Z p .neg (Z p .mul c v)) (value-at-none w C u rows))
+        go : (C : Curve (Z p)) (u : Coordinate C .Car) → Unit-of p unit C → RowsOf p C us u
+            → Opposite q (twist C 4 (d + 1)) (Λ p C lam (Coordinate C .mul (mono C n) u)) r
+        go C u i rows =
+            let (c, inverse, is) = o .is C 4 (d + 1) i (omega arith) in
+            (c, inverse, is ∙ ap (λ v. Z p .neg (Z p .mul c v)) (value-at-none w C u rows))
 
-pub term-x-none : {p d d2 n a4 : ℕ} {lam : List ℕ} {ws : List (List ℕ)} → 0 < p → ¬ (d2 ≡ d + 2) → TermX p lam ws d d2 n a4 0
-term-x-none h u = record { below = h; none = λ _. refl; is = λ e. absurd (u e) }
+  module _ {lam : List ℕ} {ws : List (List ℕ)} {n a4 : ℕ} where
+    pub term-x-none : 0 < p → ¬ (d2 ≡ d + 2) → TermX q lam ws n a4 0
+    term-x-none h u = record { below = h; none = λ _. refl; is = λ e. absurd (u e) }
 
-pub term-x-some : {p d d2 n a4 w4 a b r : ℕ} {lam : List ℕ} {ws : List (List ℕ)} → d2 ≡ d + 2
-    → ValueAt p lam ws 4 0 w4 → ValueAt p lam ws n 0 a → Is p b (Z p .add (Z p .mul (el p a4) (el p w4)) (el p a)) → Is p r (Z p .neg (el p b)) → TermX p lam ws d d2 n a4 r
-term-x-some {p} {a4 = a4} e v w i j =
-    record {
-      below = j .below;
-      none = λ u. absurd (u e);
-      is = λ _ C g rows. j .is ∙ ap (Z p .neg) (i .is ∙ ap₂ (λ s t. Z p .add (Z p .mul (el p a4) s) t) (value-at-none v C g rows) (value-at-none w C g rows));
-    }
+    pub term-x-some : {v : Values} {a b r : ℕ} → d2 ≡ d + 2 → ValuesOf q lam ws v → ValueAt q lam ws n 0 a
+        → Is p b (Z p .add (Z p .mul (el p a4) (el p (v .w4))) (el p a)) → Is p r (Z p .neg (el p b)) → TermX q lam ws n a4 r
+    term-x-some {v} {a} {b} {r} e k w i j = record { below = j .below; none = λ u. absurd (u e); is = λ _ C g rows. j .is ∙ ap (Z p .neg) (i .is ∙ sum C g rows) }
+      where
+        sum : (C : Curve (Z p)) (g : Coordinate C .Car) → RowsOf p C ws g
+            → Z p .add (Z p .mul (el p a4) (el p (v .w4))) (el p a)
+            ≡ Z p .add (Z p .mul (el p a4) (Λ p C lam (Coordinate C .mul (mono C 4) g))) (Λ p C lam (Coordinate C .mul (mono C n) g))
+        sum C g rows = ap₂ (λ s t. Z p .add (Z p .mul (el p a4) s) t) (value-at-none (k .w4) C g rows) (value-at-none w C g rows)
 
-pub term-one-is : {p d d2 n a4 a3 v4 v3 a b e r : ℕ} {lam : List ℕ} {ws : List (List ℕ)}
-    → ValueAt p lam ws 4 (d + largest-gap - d2) v4 → ValueAt p lam ws 3 (d + largest-gap - d2) v3 → ValueAt p lam ws n (d + largest-gap - d2) a
-    → Is p b (Z p .add (Z p .mul (el p a4) (el p v4)) (el p a)) → Is p e (Z p .add (Z p .mul (el p a3) (el p v3)) (el p b)) → Is p r (Z p .neg (el p e)) → TermOne p lam ws d d2 n a4 a3 r
-term-one-is {p} {a4 = a4} {a3 = a3} u v w i j l =
-    record {
-      below = l .below;
-      is = λ C g rows. l .is ∙ ap (Z p .neg) (j .is ∙ ap₂ (λ s t. Z p .add (Z p .mul (el p a3) s) t) (v .is C g rows) (i .is ∙ ap₂ (λ s t. Z p .add (Z p .mul (el p a4) s) t) (u .is C g rows) (w .is C g rows)));
-    }
+    pub term-one-is : {v : Values} {a3 a b e r : ℕ} → ValuesOf q lam ws v → ValueAt q lam ws n (d + largest-gap - d2) a
+        → Is p b (Z p .add (Z p .mul (el p a4) (el p (v .v4))) (el p a)) → Is p e (Z p .add (Z p .mul (el p a3) (el p (v .v3))) (el p b))
+        → Is p r (Z p .neg (el p e)) → TermOne q lam ws n a4 a3 r
+    term-one-is {a3 = a3} k w i j l =
+        record {
+          below = l .below;
+          is = λ C g rows. l .is ∙ ap (Z p .neg) (j .is ∙ ap₂ (sum a3) (k .v3 .is C g rows) (i .is ∙ ap₂ (sum a4) (k .v4 .is C g rows) (w .is C g rows)));
+        }
+      where
+        sum : ℕ → Z p .Car → Z p .Car → Z p .Car
+        sum n s t = Z p .add (Z p .mul (el p n) s) t

@@ -1,3 +1,4 @@
--- The star of a triple: functionals, what star requires and ensures.
-pub mod Functional
+-- The star of a triple: what star and its parts require and ensure.
+pub mod Lambda
+pub mod Parts
 pub mod Contract

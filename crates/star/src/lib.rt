@@ -2,9 +2,21 @@
 // d + 5, 1 at d + 5 and 0 at every multiple of f, d the degree of f. Of the other two members u has the degree d + 1 or
 // d + 4, and w the degree d + 2, d + 5 or d + 8.
 ghost use mathlib.Core.Path.{_≡_};
-ghost use Rattle.star.specs.Contract.{StarAsked, StarOf, LeastOf, ValueAsked, Valued, AtAsked, ValueAt, OppositeAsked, OppositeOf, Given, FunctionalOf, PosedW, ValuesOf, YAsked, TermY, XAsked, TermX, OneAsked, TermOne, SolveAsked, Solved, Posed, Made11, Made21, Made22, Made31, ByKind, FromAsked};
+ghost use Rattle.star.specs.Contract.{StarAsked, StarOf, LeastOf, FromAsked};
+ghost use Rattle.star.specs.Lambda.{ValueAsked, Valued, ValueAtAsked, ValueAt, OppositeAsked, OppositeOf, FunctionalAsked, FunctionalOf};
+ghost use Rattle.star.specs.Parts.{PosedW, ValuesOf, TermYAsked, TermY, TermXAsked, TermX, TermOneAsked, TermOne, SolveAsked, Solved};
+ghost use Rattle.star.specs.Parts.{Posed, ByKind};
 use basis::Divisor;
 use ground::Ground;
+
+// What the functions below share: the modulus, the inverse of −a0, and the degrees of f, u and w.
+struct Pose {
+    p: u32,
+    unit: u32,
+    d: usize,
+    d1: usize,
+    d2: usize,
+}
 
 // a4·y + a3·x + a0
 struct Terms {
@@ -32,300 +44,158 @@ fn value(p: u32, lam: &[u32; 26], c: usize, v: &[u32; 26], s: usize, to: usize) 
 }
 
 // Λ(mono n·x^(h/3)·g) from the y-multiples of g, of degree e.
-fn value_at(
-    p: u32,
-    lam: &[u32; 26],
-    d: usize,
-    ys: &[[u32; 26]; 3],
-    e: usize,
-    n: usize,
-    h: usize,
-) -> u32
-    requires { ⌜ AtAsked p (now lam) d (now ys) e n h ⌝ }
-    ensures { λ r. ⌜ ValueAt p (now (lam .entry)) (now (ys .entry)) n h r ⌝ }
+fn value_at(q: Pose, lam: &[u32; 26], ys: &[[u32; 26]; 3], e: usize, n: usize, h: usize) -> u32
+    requires { ⌜ ValueAtAsked q (now lam) (now ys) e n h ⌝ }
+    ensures { λ r. ⌜ ValueAt q (now (lam .entry)) (now (ys .entry)) n h r ⌝ }
 {
     let j = n % 3;
-    value(p, lam, d + 5, &ys[j], n - 4 * j + h, n + h + e + 1)
+    value(q.p, lam, q.d + 5, &ys[j], n - 4 * j + h, n + h + e + 1)
 }
 
-// −v over the lead of a product of two monic elements, whose classes modulo 3 add up to m: that lead is 1, or −a0 with the
-// inverse k where a y³ comes up.
-fn opposite(p: u32, k: u32, m: usize, v: u32) -> u32
-    requires { ⌜ OppositeAsked p k v ⌝ }
-    ensures { λ r. ⌜ OppositeOf p k m v r ⌝ }
+// −v over the lead of a product of two monic elements, whose classes modulo 3 add up to m: that lead is 1, or −a0 where a y³
+// comes up.
+fn opposite(q: Pose, m: usize, v: u32) -> u32
+    requires { ⌜ OppositeAsked q v ⌝ }
+    ensures { λ r. ⌜ OppositeOf q m v r ⌝ }
 {
     if m < 3 {
-        return field::neg(p, v);
+        return field::neg(q.p, v);
     }
-    let w = field::mul(p, k, v);
-    field::neg(p, w)
+    let w = field::mul(q.p, q.unit, v);
+    field::neg(q.p, w)
 }
 
-// The functional of a monic f of degree d from f's y-multiples: lam[d + s] makes it zero at mono s·f.
-fn functional(p: u32, k: u32, ys: &[[u32; 26]; 3], d: usize) -> [u32; 26]
-    requires { ⌜ Given p k (now ys) d ⌝ }
-    ensures { λ r. ⌜ FunctionalOf p k (now (ys .entry)) d r ⌝ }
+// The functional of a monic f from f's y-multiples: lam[d + s] makes it zero at mono s·f.
+fn functional(q: Pose, ys: &[[u32; 26]; 3]) -> [u32; 26]
+    requires { ⌜ FunctionalAsked q (now ys) ⌝ }
+    ensures { λ r. ⌜ FunctionalOf q (now (ys .entry)) r ⌝ }
 {
     let mut lam = [0u32; 26];
-    lam[d + 5] = 1;
+    lam[q.d + 5] = 1;
     let mut s = 6;
     while s < 14 {
         let j = s % 3;
-        let v = value(p, &lam, d + 5, &ys[j], s - 4 * j, d + s);
-        lam[d + s] = opposite(p, k, j + d % 3, v);
+        let v = value(q.p, &lam, q.d + 5, &ys[j], s - 4 * j, q.d + s);
+        lam[q.d + s] = opposite(q, j + q.d % 3, v);
         s += 1;
     }
     lam
 }
 
 // Λ at y·w, y·v and x·v.
-fn values_of(p: u32, lam: &[u32; 26], ws: &[[u32; 26]; 3], d: usize, d2: usize) -> Values
-    requires { ⌜ PosedW p (now lam) (now ws) d d2 ⌝ }
-    ensures { λ r. ⌜ ValuesOf p (now (lam .entry)) (now (ws .entry)) d d2 r ⌝ }
+fn values_of(q: Pose, lam: &[u32; 26], ws: &[[u32; 26]; 3]) -> Values
+    requires { ⌜ PosedW q (now lam) (now ws) ⌝ }
+    ensures { λ r. ⌜ ValuesOf q (now (lam .entry)) (now (ws .entry)) r ⌝ }
 {
-    let h = d + 5 - d2;
-    let w4 = value_at(p, lam, d, ws, d2, 4, 0);
-    let v4 = value_at(p, lam, d, ws, d2, 4, h);
-    let v3 = value_at(p, lam, d, ws, d2, 3, h);
+    let h = q.d + 5 - q.d2;
+    let w4 = value_at(q, lam, ws, q.d2, 4, 0);
+    let v4 = value_at(q, lam, ws, q.d2, 4, h);
+    let v3 = value_at(q, lam, ws, q.d2, 3, h);
     Values { w4, v4, v3 }
 }
 
 // The number before y, which makes Λ zero at the product with u.
-fn term_y(
-    p: u32,
-    k: u32,
-    lam: &[u32; 26],
-    us: &[[u32; 26]; 3],
-    d: usize,
-    d1: usize,
-    n: usize,
-) -> u32
-    requires { ⌜ YAsked p k (now lam) (now us) d d1 n ⌝ }
-    ensures { λ r. ⌜ TermY p k (now (lam .entry)) (now (us .entry)) d d1 n r ⌝ }
+fn term_y(q: Pose, lam: &[u32; 26], us: &[[u32; 26]; 3], n: usize) -> u32
+    requires { ⌜ TermYAsked q (now lam) (now us) n ⌝ }
+    ensures { λ r. ⌜ TermY q (now (lam .entry)) (now (us .entry)) n r ⌝ }
 {
-    if d1 != d + 1 {
+    if q.d1 != q.d + 1 {
         return 0;
     }
-    let a = value_at(p, lam, d, us, d1, n, 0);
-    opposite(p, k, 1 + d1 % 3, a)
+    let a = value_at(q, lam, us, q.d1, n, 0);
+    opposite(q, 1 + q.d1 % 3, a)
 }
 
 // The number before x, which makes Λ zero at the product with w.
-fn term_x(
-    p: u32,
-    lam: &[u32; 26],
-    ws: &[[u32; 26]; 3],
-    d: usize,
-    d2: usize,
-    n: usize,
-    a4: u32,
-    w4: u32,
-) -> u32
-    requires { ⌜ XAsked p (now lam) (now ws) d d2 n a4 w4 ⌝ }
-    ensures { λ r. ⌜ TermX p (now (lam .entry)) (now (ws .entry)) d d2 n a4 r ⌝ }
+fn term_x(q: Pose, lam: &[u32; 26], ws: &[[u32; 26]; 3], v: Values, n: usize, a4: u32) -> u32
+    requires { ⌜ TermXAsked q (now lam) (now ws) v n a4 ⌝ }
+    ensures { λ r. ⌜ TermX q (now (lam .entry)) (now (ws .entry)) n a4 r ⌝ }
 {
-    if d2 != d + 2 {
+    if q.d2 != q.d + 2 {
         return 0;
     }
-    let a = value_at(p, lam, d, ws, d2, n, 0);
-    let b = field::mul_add(p, a4, w4, a);
-    field::neg(p, b)
+    let a = value_at(q, lam, ws, q.d2, n, 0);
+    let b = field::mul_add(q.p, a4, v.w4, a);
+    field::neg(q.p, b)
 }
 
 // The constant, which makes Λ zero at the product with v.
 fn term_one(
-    p: u32,
+    q: Pose,
     lam: &[u32; 26],
     ws: &[[u32; 26]; 3],
-    d: usize,
-    d2: usize,
+    v: Values,
     n: usize,
     a4: u32,
     a3: u32,
-    v4: u32,
-    v3: u32,
 ) -> u32
-    requires { ⌜ OneAsked p (now lam) (now ws) d d2 n a4 a3 v4 v3 ⌝ }
-    ensures { λ r. ⌜ TermOne p (now (lam .entry)) (now (ws .entry)) d d2 n a4 a3 r ⌝ }
+    requires { ⌜ TermOneAsked q (now lam) (now ws) v n a4 a3 ⌝ }
+    ensures { λ r. ⌜ TermOne q (now (lam .entry)) (now (ws .entry)) n a4 a3 r ⌝ }
 {
-    let h = d + 5 - d2;
-    let a = value_at(p, lam, d, ws, d2, n, h);
-    let b = field::mul_add(p, a4, v4, a);
-    let e = field::mul_add(p, a3, v3, b);
-    field::neg(p, e)
+    let h = q.d + 5 - q.d2;
+    let a = value_at(q, lam, ws, q.d2, n, h);
+    let b = field::mul_add(q.p, a4, v.v4, a);
+    let e = field::mul_add(q.p, a3, v.v3, b);
+    field::neg(q.p, e)
 }
 
 // The numbers of mono n + a4·y + a3·x + a0 in J*: a4 is 0 if d1 is d + 4, and a3 is 0 if d2 is d + 5.
 fn solve(
-    p: u32,
-    k: u32,
+    q: Pose,
     lam: &[u32; 26],
     us: &[[u32; 26]; 3],
     ws: &[[u32; 26]; 3],
-    d: usize,
-    d1: usize,
-    d2: usize,
     v: Values,
     n: usize,
 ) -> Terms
-    requires { ⌜ SolveAsked p k (now lam) (now us) (now ws) d d1 d2 n v ⌝ }
-    ensures { λ r. ⌜ Solved p k (now (lam .entry)) (now (us .entry)) (now (ws .entry)) d d1 d2 n r ⌝ }
+    requires { ⌜ SolveAsked q (now lam) (now us) (now ws) v n ⌝ }
+    ensures { λ r. ⌜ Solved q (now (lam .entry)) (now (us .entry)) (now (ws .entry)) n r ⌝ }
 {
-    let a4 = term_y(p, k, lam, us, d, d1, n);
-    let a3 = term_x(p, lam, ws, d, d2, n, a4, v.w4);
-    let a0 = term_one(p, lam, ws, d, d2, n, a4, a3, v.v4, v.v3);
+    let a4 = term_y(q, lam, us, n);
+    let a3 = term_x(q, lam, ws, v, n, a4);
+    let a0 = term_one(q, lam, ws, v, n, a4, a3);
     Terms { a0, a3, a4 }
 }
 
-// x + f0; y + g0
-fn star_11(
-    p: u32,
-    k: u32,
-    lam: &[u32; 26],
-    us: &[[u32; 26]; 3],
-    ws: &[[u32; 26]; 3],
-    d: usize,
-    d1: usize,
-    d2: usize,
-) -> Divisor
-    requires { ⌜ Posed p k (now lam) (now us) (now ws) d d1 d2 ⌝ }
-    ensures { λ r. ⌜ Made11 p k (now (lam .entry)) (now (us .entry)) (now (ws .entry)) d d1 d2 r ⌝ }
-{
-    let v = values_of(p, lam, ws, d, d2);
-    let f = solve(p, k, lam, us, ws, d, d1, d2, v, 3);
-    let g = solve(p, k, lam, us, ws, d, d1, d2, v, 4);
-    Divisor {
-        kind: 11,
-        n0: f.a0,
-        n1: g.a0,
-        n2: 0,
-        n3: 0,
-        n4: 0,
-        n5: 0,
-        n6: 0,
-        n7: 0,
-        n8: 0,
-    }
-}
-
-// y + f1·x + f0; x² + g1·x + g0
-fn star_21(
-    p: u32,
-    k: u32,
-    lam: &[u32; 26],
-    us: &[[u32; 26]; 3],
-    ws: &[[u32; 26]; 3],
-    d: usize,
-    d1: usize,
-    d2: usize,
-) -> Divisor
-    requires { ⌜ Posed p k (now lam) (now us) (now ws) d d1 d2 ⌝ }
-    ensures { λ r. ⌜ Made21 p k (now (lam .entry)) (now (us .entry)) (now (ws .entry)) d d1 d2 r ⌝ }
-{
-    let v = values_of(p, lam, ws, d, d2);
-    let f = solve(p, k, lam, us, ws, d, d1, d2, v, 4);
-    let g = solve(p, k, lam, us, ws, d, d1, d2, v, 6);
-    Divisor {
-        kind: 21,
-        n0: f.a0,
-        n1: f.a3,
-        n2: g.a0,
-        n3: g.a3,
-        n4: 0,
-        n5: 0,
-        n6: 0,
-        n7: 0,
-        n8: 0,
-    }
-}
-
-// x + f0; y² + g1·y + g0
-fn star_22(
-    p: u32,
-    k: u32,
-    lam: &[u32; 26],
-    us: &[[u32; 26]; 3],
-    ws: &[[u32; 26]; 3],
-    d: usize,
-    d1: usize,
-    d2: usize,
-) -> Divisor
-    requires { ⌜ Posed p k (now lam) (now us) (now ws) d d1 d2 ⌝ }
-    ensures { λ r. ⌜ Made22 p k (now (lam .entry)) (now (us .entry)) (now (ws .entry)) d d1 d2 r ⌝ }
-{
-    let v = values_of(p, lam, ws, d, d2);
-    let f = solve(p, k, lam, us, ws, d, d1, d2, v, 3);
-    let g = solve(p, k, lam, us, ws, d, d1, d2, v, 8);
-    Divisor {
-        kind: 22,
-        n0: f.a0,
-        n1: g.a0,
-        n2: g.a4,
-        n3: 0,
-        n4: 0,
-        n5: 0,
-        n6: 0,
-        n7: 0,
-        n8: 0,
-    }
-}
-
-// x² + f2·y + f1·x + f0; xy + g2·y + g1·x + g0; y² + h2·y + h1·x + h0
-fn star_31(
-    p: u32,
-    k: u32,
-    lam: &[u32; 26],
-    us: &[[u32; 26]; 3],
-    ws: &[[u32; 26]; 3],
-    d: usize,
-    d1: usize,
-    d2: usize,
-) -> Divisor
-    requires { ⌜ Posed p k (now lam) (now us) (now ws) d d1 d2 ⌝ }
-    ensures { λ r. ⌜ Made31 p k (now (lam .entry)) (now (us .entry)) (now (ws .entry)) d d1 d2 r ⌝ }
-{
-    let v = values_of(p, lam, ws, d, d2);
-    let f = solve(p, k, lam, us, ws, d, d1, d2, v, 6);
-    let g = solve(p, k, lam, us, ws, d, d1, d2, v, 7);
-    let h = solve(p, k, lam, us, ws, d, d1, d2, v, 8);
-    Divisor {
-        kind: 31,
-        n0: f.a0,
-        n1: f.a3,
-        n2: f.a4,
-        n3: g.a0,
-        n4: g.a3,
-        n5: g.a4,
-        n6: h.a0,
-        n7: h.a3,
-        n8: h.a4,
-    }
-}
-
 // The divisor of the kind that the degrees d1 and d2 tell.
-fn by_kind(
-    p: u32,
-    k: u32,
-    lam: &[u32; 26],
-    us: &[[u32; 26]; 3],
-    ws: &[[u32; 26]; 3],
-    d: usize,
-    d1: usize,
-    d2: usize,
-) -> Divisor
-    requires { ⌜ Posed p k (now lam) (now us) (now ws) d d1 d2 ⌝ }
-    ensures { λ r. ⌜ ByKind p k (now (lam .entry)) (now (us .entry)) (now (ws .entry)) d d1 d2 r ⌝ }
+fn by_kind(q: Pose, lam: &[u32; 26], us: &[[u32; 26]; 3], ws: &[[u32; 26]; 3]) -> Divisor
+    requires { ⌜ Posed q (now lam) (now us) (now ws) ⌝ }
+    ensures { λ r. ⌜ ByKind q (now (lam .entry)) (now (us .entry)) (now (ws .entry)) r ⌝ }
 {
-    if d2 == d + 2 {
-        if d1 == d + 1 {
-            return star_31(p, k, lam, us, ws, d, d1, d2);
+    let v = values_of(q, lam, ws);
+    if q.d2 == q.d + 2 {
+        if q.d1 == q.d + 1 {
+            // x² + f2·y + f1·x + f0; xy + g2·y + g1·x + g0; y² + h2·y + h1·x + h0
+            let f = solve(q, lam, us, ws, v, 6);
+            let g = solve(q, lam, us, ws, v, 7);
+            let h = solve(q, lam, us, ws, v, 8);
+            return Divisor {
+                kind: 31,
+                n0: f.a0,
+                n1: f.a3,
+                n2: f.a4,
+                n3: g.a0,
+                n4: g.a3,
+                n5: g.a4,
+                n6: h.a0,
+                n7: h.a3,
+                n8: h.a4,
+            };
         }
-        return star_21(p, k, lam, us, ws, d, d1, d2);
+        // y + f1·x + f0; x² + g1·x + g0
+        let f = solve(q, lam, us, ws, v, 4);
+        let g = solve(q, lam, us, ws, v, 6);
+        return basis::of_four(21, f.a0, f.a3, g.a0, g.a3);
     }
-    if d1 == d + 1 {
-        return star_22(p, k, lam, us, ws, d, d1, d2);
+    let f = solve(q, lam, us, ws, v, 3);
+    if q.d1 == q.d + 1 {
+        // x + f0; y² + g1·y + g0
+        let g = solve(q, lam, us, ws, v, 8);
+        return basis::of_four(22, f.a0, g.a0, g.a4, 0);
     }
-    star_11(p, k, lam, us, ws, d, d1, d2)
+    // x + f0; y + g0
+    let g = solve(q, lam, us, ws, v, 4);
+    basis::of_four(11, f.a0, g.a0, 0, 0)
 }
 
 // The class of the least degree.
@@ -357,8 +227,15 @@ fn star_from(g: Ground, t: &[[u32; 26]; 3], d: &[usize; 3], j: usize) -> Divisor
     let ys = vector::y_multiples(g.p, &g.cube, &t[j], e + 1);
     let us = vector::y_multiples(g.p, &g.cube, &t[j1], e1 + 1);
     let ws = vector::y_multiples(g.p, &g.cube, &t[j2], e2 + 1);
-    let lam = functional(g.p, g.unit, &ys, e);
-    by_kind(g.p, g.unit, &lam, &us, &ws, e, e1, e2)
+    let q = Pose {
+        p: g.p,
+        unit: g.unit,
+        d: e,
+        d1: e1,
+        d2: e2,
+    };
+    let lam = functional(q, &ys);
+    by_kind(q, &lam, &us, &ws)
 }
 
 // The divisor of the star of a triple's span, an ideal with an element of degree 12 or less. The degrees less the least one
@@ -371,18 +248,7 @@ pub fn star(g: Ground, t: &[[u32; 26]; 3], d: &[usize; 3]) -> Divisor
     let e = d[j];
     let e2 = d[(j + 2) % 3];
     if e2 == e + 8 {
-        return Divisor {
-            kind: 0,
-            n0: 0,
-            n1: 0,
-            n2: 0,
-            n3: 0,
-            n4: 0,
-            n5: 0,
-            n6: 0,
-            n7: 0,
-            n8: 0,
-        };
+        return basis::zero_class();
     }
     star_from(g, t, d, j)
 }

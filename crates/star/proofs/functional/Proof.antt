@@ -6,10 +6,10 @@ use Rattle.star.proofs.functional.Statement.{statement}
 use Rattle.star.proofs.functional.Tie as tie
 
 abbrev Inv-loop : tie.InvT-loop
-Inv-loop p k ys d lam₀ s₀ lam s = Partial p k ys d s lam × (6 ≤ s) × (s ≤ 14)
+Inv-loop q ys lam₀ s₀ lam s = Partial q ys s lam × (6 ≤ s) × (s ≤ 14)
 
 abbrev μ-loop : tie.MeasureT-loop
-μ-loop p k ys d lam₀ s₀ lam s = 14 - s
+μ-loop q ys lam₀ s₀ lam s = 14 - s
 
 add-lam : tie.Need-add-lam Inv-loop μ-loop
 add-lam c = omega arith
@@ -21,7 +21,7 @@ array-write-lam : tie.Need-array-write-lam Inv-loop μ-loop
 array-write-lam c = omega arith
 
 loop-holds : tie.Need-loop-holds Inv-loop μ-loop
-loop-holds c = (partial-start (c .pre), omega arith, omega arith)
+loop-holds c = (partial-start (c .before .pre), omega arith, omega arith)
 
 add-value : tie.Need-add-value Inv-loop μ-loop
 add-value c = omega arith
@@ -43,8 +43,8 @@ add-value-2 c = omega arith
 
 value-requires : tie.Need-value-requires Inv-loop μ-loop
 value-requires c κs =
-    let l = c .before .before .before .loop in
-    partial-asked (c .before .before .before .before .pre) (l .inv .0) (l .inv .1) (c .before .before .loop-test .taken)
+    let l = c .before .before .before .before .before in
+    partial-asked (l .before .before .pre) (l .loop .inv .0) (l .loop .inv .1) (c .before .before .before .before .loop-test .taken)
 
 add-opposite : tie.Need-add-opposite Inv-loop μ-loop
 add-opposite c = omega arith
@@ -69,8 +69,10 @@ loop-less c = omega arith
 
 loop-again : tie.Need-loop-again Inv-loop μ-loop
 loop-again c =
-    let l = c .before .before .before .before .before .loop in (
-      partial-more (c .before .before .before .before .before .before .pre) (l .inv .0) (l .inv .1) (c .before .before .before .before .loop-test .taken) (c .before .value .ensures) (c .opposite .ensures),
+    let value = c .before .before .before in
+    let l = value .before .before .before .before .before .before in
+    let asked = l .before .before .pre in (
+      partial-more asked (l .loop .inv .0) (l .loop .inv .1) (value .before .before .before .before .before .loop-test .taken) (value .value .ensures) (c .before .opposite .ensures),
       omega arith,
       omega arith,
     )

@@ -27,8 +27,11 @@ element-copy-out-e2 c = search needs
 add-if1 : tie.Need-add-if1
 add-if1 c = omega (arith, least-small (c .before .before .before .pre) (c .before .before .least .ensures))
 
+zero-class-requires : tie.Need-zero-class-requires
+zero-class-requires c κs = search needs
+
 returns : tie.Need-returns
-returns c A = starred-0 A (c .before .before .before .least .ensures) (c .if1 .taken)
+returns c A = starred-0 A (c .before .before .before .before .least .ensures) (c .before .if1 .taken) (c .zero-class .ensures)
 
 star-from-requires : tie.Need-star-from-requires
 star-from-requires c κs = search needs
@@ -47,6 +50,7 @@ star-spec =
     mul-e2
     element-copy-out-e2
     add-if1
+    zero-class-requires
     returns
     star-from-requires
     returns-2)

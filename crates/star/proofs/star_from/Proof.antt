@@ -2,7 +2,7 @@
 use native.Mathlib.Omega.{arith}
 use borrow.Author.Needs.{needs}
 use Rattle.star.proofs.Asked.{least-small, first-small, second-small, y-asked}
-use Rattle.star.proofs.Result.{given-of, posed-of, starred-by}
+use Rattle.star.proofs.Result.{functional-asked, posed-of, starred-by}
 use Rattle.star.proofs.star_from.Statement.{statement}
 use Rattle.star.proofs.star_from.Tie as tie
 
@@ -82,7 +82,7 @@ functional-requires : tie.Need-functional-requires
 functional-requires c κs =
     let first = c .before .before .before .before .before .before .before .before .before in
     let a = first .before .before .before .before .before .before .before .pre in
-    given-of (a .asked) (a .least) (a .some) (first .y-multiples .ensures)
+    functional-asked (a .asked) (a .least) (a .some) (first .y-multiples .ensures)
 
 by-kind-requires : tie.Need-by-kind-requires
 by-kind-requires c κs =
@@ -98,7 +98,8 @@ returns c A =
     let second = third .before .before .before .before in
     let first = second .before .before .before .before in
     let a = first .before .before .before .before .before .before .before .pre in
-    starred-by A (a .least) (a .some) (c .before .before .before .before .functional .ensures) (first .y-multiples .ensures) (second .y-multiples2 .ensures) (third .y-multiples3 .ensures) (c .by-kind .ensures)
+    let lam = c .before .before .before .before .functional .ensures in
+    starred-by A (a .least) (a .some) lam (first .y-multiples .ensures) (second .y-multiples2 .ensures) (third .y-multiples3 .ensures) (c .by-kind .ensures)
 
 pub star-from-spec : {M : Type 1} → statement M
 star-from-spec =

@@ -23,7 +23,9 @@ neg-requires : tie.Need-neg-requires
 neg-requires c κs = search needs
 
 returns : tie.Need-returns
-returns c = term-one-is (c .before .before .before .before .pre .at-v4) (c .before .before .before .before .pre .at-v3) (c .before .before .before .value-at .ensures) (c .before .before .mul-add .ensures) (c .before .mul-add2 .ensures) (c .neg .ensures)
+returns c =
+    let mul = c .before .before in
+    term-one-is (mul .before .before .before .before .pre .values) (mul .before .value-at .ensures) (mul .mul-add .ensures) (c .before .mul-add2 .ensures) (c .neg .ensures)
 
 pub term-one-spec : {M : Type 1} → statement M
 term-one-spec =

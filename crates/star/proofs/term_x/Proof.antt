@@ -21,7 +21,7 @@ neg-requires : tie.Need-neg-requires
 neg-requires c κs = search needs
 
 returns-2 : tie.Need-returns-2
-returns-2 c = term-x-some (omega arith) (c .before .before .before .before .pre .at-w4) (c .before .before .value-at .ensures) (c .before .mul-add .ensures) (c .neg .ensures)
+returns-2 c = term-x-some (omega arith) (c .before .before .before .before .before .before .pre .values) (c .before .before .value-at .ensures) (c .before .mul-add .ensures) (c .neg .ensures)
 
 pub term-x-spec : {M : Type 1} → statement M
 term-x-spec =

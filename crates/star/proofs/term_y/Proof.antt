@@ -21,7 +21,7 @@ opposite-requires : tie.Need-opposite-requires
 opposite-requires c κs = search needs
 
 returns-2 : tie.Need-returns-2
-returns-2 c = term-y-some (omega arith) (c .before .value-at .ensures) (c .opposite .ensures)
+returns-2 c = term-y-some (omega arith) (c .before .before .value-at .ensures) (c .opposite .ensures)
 
 pub term-y-spec : {M : Type 1} → statement M
 term-y-spec =

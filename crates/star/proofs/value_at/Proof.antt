@@ -32,10 +32,10 @@ add-value-5 : tie.Need-add-value-5
 add-value-5 c = search needs
 
 value-requires : tie.Need-value-requires
-value-requires c κs = value-asked (c .before .pre)
+value-requires c κs = value-asked (c .before .before .pre)
 
 returns : tie.Need-returns
-returns c = value-at (c .before .before .pre) (c .value .ensures)
+returns c = value-at (c .before .before .before .pre) (c .value .ensures)
 
 pub value-at-spec : {M : Type 1} → statement M
 value-at-spec =

@@ -3,7 +3,6 @@
 --   total-same                 equal terms give equal sums
 --   total-zero                 a sum of zeros
 --   total-one                  a sum with one term that is not zero
---   total-cut                  zeros at the end may be left out
 --   total-range                a sum of terms that are zero outside of a range, over that range
 use mathlib.Core.Path.{_≡_, refl, sym, _∙_, ap, ap₂}
 use Prim.Native.Nat.{ℕ, zero, suc, _+_, _-_, _<_, _≤_}
@@ -34,7 +33,8 @@ module _ (R : CommRing) where
   total-zero f zero e = refl
   total-zero f (suc n) e = ap₂ _⊕_ (e n (omega arith)) (total-zero f n (λ i h. e i (omega arith))) ∙ R .add-zero 𝟘
 
-  pub total-cut : (f : ℕ → Car) (m n : ℕ) → m ≤ n → ((i : ℕ) → m ≤ i → i < n → f i ≡ 𝟘) → total R f n ≡ total R f m
+  -- zeros at the end may be left out
+  total-cut : (f : ℕ → Car) (m n : ℕ) → m ≤ n → ((i : ℕ) → m ≤ i → i < n → f i ≡ 𝟘) → total R f n ≡ total R f m
   total-cut f m zero h e = ap (total R f) {x = 0} {y = m} (omega arith)
   total-cut f m (suc n) h e = go (decLe m n) (total-cut f m n)
     where

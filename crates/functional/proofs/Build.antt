@@ -18,8 +18,8 @@ use Rattle.curve.specs.Sequence.{coefficient, twist}
 use Rattle.curve.specs.Monomial.{mono, Below}
 use Rattle.curve.proofs.Filtration.{below-more}
 use Rattle.curve.proofs.Product.{below-mono, coefficient-mono, product-below, product-top}
-use Rattle.star.specs.Functional.{apply, Functional}
-use Rattle.star.proofs.Apply.{apply-same, apply-more}
+use Rattle.functional.specs.Functional.{apply, Functional}
+use Rattle.functional.proofs.Apply.{apply-same, apply-more}
 
 -- v + (−(c·v))·(t·(1·1)) = 0 if c·t = 1
 vanish : (R : CommRing) (v c t : R .Car) → R .mul c t ≡ R .one → R .add v (R .mul (R .neg (R .mul c v)) (R .mul t (R .mul (R .one) (R .one)))) ≡ R .zero

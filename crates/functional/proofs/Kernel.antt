@@ -1,5 +1,4 @@
 -- The functional of f and the kernel of f: what the functional takes to 0 below d + 14 is in the kernel.
---   constant-of            an element without monomials from 1 on is a constant
 --   functional-kernel      apply lam h = 0 puts h in the kernel of f, for h below d + 14
 --   functional-low         the functional is 0 below d + 5
 --   functional-top         … and the coefficient at d + 5 of an element below d + 6
@@ -21,8 +20,8 @@ use Rattle.curve.proofs.Filtration.{below-none, below-more, below-step}
 use Rattle.curve.proofs.Product.{split}
 use Rattle.poles.specs.Poles.{poles}
 use Rattle.curve.proofs.Poles as CP
-use Rattle.star.specs.Functional.{apply, Functional}
-use Rattle.star.proofs.Apply.{apply-add, apply-scale, apply-low, apply-top}
+use Rattle.functional.specs.Functional.{apply, Functional}
+use Rattle.functional.proofs.Apply.{apply-add, apply-scale, apply-low, apply-top}
 
 module _ (K : Field) (C : Curve (K .ring)) where
   open CommRing (K .ring) using (Car, zero as 𝟘, one as 𝟙, add as _+ₖ_, mul as _·ₖ_, neg as -ₖ_)
@@ -31,7 +30,8 @@ module _ (K : Field) (C : Curve (K .ring)) where
   infixl 60 _⊕_ _+ₖ_
   infixl 70 _⊗_ _·ₖ_
   infix 80 ⊖_ -ₖ_
-  pub constant-of : {a : El} → Below C 1 a → a ≡ constant C (coefficient C 0 a)
+  -- an element without monomials from 1 on is a constant
+  constant-of : {a : El} → Below C 1 a → a ≡ constant C (coefficient C 0 a)
   constant-of {a} b =
       L.sub-zero→eq (Coordinate C) a _ (below-none C (split C b))
       ∙ ap (λ u. constant C (coefficient C 0 a) ⊗ u) (CP.mono-zero K C)
@@ -58,16 +58,23 @@ module _ (K : Field) (C : Curve (K .ring)) where
         where
           q : d + largest-gap + m ≡ d + largest-gap
           q = omega arith
-      step m l next h b e (no n) = go (lowered (poles K C nonzero) {g = h} b (pole-at (poles K C nonzero) {n = d + largest-gap + m} (omega arith) (pole-mul (poles K C nonzero) (mono-has (poles K C nonzero) {n = m + 5} (pole-large (omega arith))) pf)))
+      step m l next h b e (no n) = go (lowered (poles K C nonzero) {g = h} b (pole-at (poles K C nonzero) {n = d + largest-gap + m} (omega arith) product))
         where
+          product : HasPole (poles K C nonzero) (mono C (m + 5) ⊗ f) (m + 5 + d)
+          product = pole-mul (poles K C nonzero) (mono-has (poles K C nonzero) {n = m + 5} (pole-large (omega arith))) pf
+
           go : (a : El) × Below C 1 a × Below C (d + largest-gap + m) (h ⊕ a ⊗ (mono C (m + 5) ⊗ f)) → Ker (poles K C nonzero) f d h
           go (a, c, b′) = ker-less (poles K C nonzero) pf (subst (Ker (poles K C nonzero) f d) (turned h a (mono C (m + 5)) f) (next _ b′ same))
             where
               same : apply C N lam (h ⊕ a ⊗ (mono C (m + 5) ⊗ f)) ≡ 𝟘
-              same =
-                  apply-add C N lam h _
-                  ∙ ap₂ _+ₖ_ e (ap (λ u. apply C N lam (u ⊗ (mono C (m + 5) ⊗ f))) (constant-of c) ∙ apply-scale C N lam _ _ ∙ ap (λ u. coefficient C 0 a ·ₖ u) (F .kills (m + 5) (omega arith) (omega arith)) ∙ L.mul-zero (K .ring) _)
-                  ∙ K .ring .add-zero 𝟘
+              same = apply-add C N lam h _ ∙ ap₂ _+ₖ_ e multiple ∙ K .ring .add-zero 𝟘
+                where
+                  multiple : apply C N lam (a ⊗ (mono C (m + 5) ⊗ f)) ≡ 𝟘
+                  multiple =
+                      ap (λ u. apply C N lam (u ⊗ (mono C (m + 5) ⊗ f))) (constant-of c)
+                      ∙ apply-scale C N lam _ _
+                      ∙ ap (λ u. coefficient C 0 a ·ₖ u) (F .kills (m + 5) (omega arith) (omega arith))
+                      ∙ L.mul-zero (K .ring) _
 
       descent : (m : ℕ) → m ≤ 9 → (h : El) → Below C (d + largest-gap + m) h → apply C N lam h ≡ 𝟘 → Ker (poles K C nonzero) f d h
       unfolding poles

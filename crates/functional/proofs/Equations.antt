@@ -1,7 +1,6 @@
 -- The numbers of a candidate mono n + a4·y + a3·x + a0: what the functional of f makes of its products with the elements u, w and v of pole
 -- numbers d + 1, d + 2 and d + 5.
 --   candidate-below        it has no monomial above y²
---   candidate-apply        the functional at a multiple of it
 --   equation-u             a4 = −c·Λ(mono n·u) makes Λ at its product with u zero; c is the inverse of twist 4 (d + 1)
 --   equation-w             … and a3 = −(a4·Λ(y·w) + Λ(mono n·w)) that with w
 --   equation-v             … and a0 = −(a3·Λ(x·v) + (a4·Λ(y·v) + Λ(mono n·v))) that with v
@@ -24,9 +23,9 @@ use Rattle.curve.proofs.Lead.{twist-one}
 use Rattle.curve.proofs.Product.{below-mono, coefficient-mono, product-below, product-top}
 use Rattle.curve.proofs.Poles.{below-constant}
 use Rattle.divisor.proofs.Monomials.{mono-x, mono-y}
-use Rattle.star.specs.Functional.{apply, Functional, candidate}
-use Rattle.star.proofs.Apply.{apply-add, apply-scale}
-use Rattle.star.proofs.Kernel.{functional-low, functional-top}
+use Rattle.functional.specs.Functional.{apply, Functional, candidate}
+use Rattle.functional.proofs.Apply.{apply-add, apply-scale}
+use Rattle.functional.proofs.Kernel.{functional-low, functional-top}
 
 three : IsPole 3
 three = pole-intro (omega arith) (omega arith) (omega arith)
@@ -38,7 +37,10 @@ four = pole-intro (omega arith) (omega arith) (omega arith)
 sum-u : (R : CommRing) (m c t a4 a3 a0 : R .Car) → R .mul c t ≡ R .one → a4 ≡ R .neg (R .mul c m)
     → R .add (R .add (R .add m (R .mul a4 (R .mul t (R .mul (R .one) (R .one))))) (R .mul a3 (R .zero))) (R .mul a0 (R .zero)) ≡ R .zero
 sum-u R m c t a4 a3 a0 e f =
-    solve-from R 6 (λ m c t a4 a3 a0. given (⊟ m) (c ⊠ t) unit ∷ given t a4 (⊟ (c ⊠ m)) ∷ []) (λ m c t a4 a3 a0. m ⊞ a4 ⊠ (t ⊠ (unit ⊠ unit)) ⊞ a3 ⊠ nil ⊞ a0 ⊠ nil) (λ m c t a4 a3 a0. nil) tt m c t a4 a3 a0 (e, (f, tt))
+    solve-from R 6
+    (λ m c t a4 a3 a0. given (⊟ m) (c ⊠ t) unit ∷ given t a4 (⊟ (c ⊠ m)) ∷ [])
+    (λ m c t a4 a3 a0. m ⊞ a4 ⊠ (t ⊠ (unit ⊠ unit)) ⊞ a3 ⊠ nil ⊞ a0 ⊠ nil)
+    (λ m c t a4 a3 a0. nil) tt m c t a4 a3 a0 (e, (f, tt))
 
 sum-w : (R : CommRing) (m y a4 a3 a0 : R .Car) → a3 ≡ R .neg (R .add (R .mul a4 y) m)
     → R .add (R .add (R .add m (R .mul a4 y)) (R .mul a3 (R .one))) (R .mul a0 (R .zero)) ≡ R .zero
@@ -68,7 +70,8 @@ module _ {k : CommRing} (C : Curve k) where
   expand : (m a4 y a3 x a0 g : El) → (m ⊕ a4 ⊗ y ⊕ a3 ⊗ x ⊕ a0) ⊗ g ≡ m ⊗ g ⊕ a4 ⊗ (y ⊗ g) ⊕ a3 ⊗ (x ⊗ g) ⊕ a0 ⊗ g
   expand = solve (Coordinate C) 7 (λ m a4 y a3 x a0 g. (m ⊞ a4 ⊠ y ⊞ a3 ⊠ x ⊞ a0) ⊠ g) (λ m a4 y a3 x a0 g. m ⊠ g ⊞ a4 ⊠ (y ⊠ g) ⊞ a3 ⊠ (x ⊠ g) ⊞ a0 ⊠ g) tt
 
-  pub candidate-apply : (N : ℕ) (lam : ℕ → Car) (n : ℕ) (a4 a3 a0 : Car) (g : El)
+  -- the functional at a multiple of a candidate
+  candidate-apply : (N : ℕ) (lam : ℕ → Car) (n : ℕ) (a4 a3 a0 : Car) (g : El)
       → apply C N lam (candidate C n a4 a3 a0 ⊗ g) ≡ apply C N lam (mono C n ⊗ g) +ₖ a4 ·ₖ apply C N lam (mono C 4 ⊗ g) +ₖ a3 ·ₖ apply C N lam (mono C 3 ⊗ g) +ₖ a0 ·ₖ apply C N lam g
   unfolding candidate
   candidate-apply N lam n a4 a3 a0 g =
@@ -80,7 +83,8 @@ module _ {k : CommRing} (C : Curve k) where
       (apply-scale C N lam a3 (x C ⊗ g) ∙ ap (λ u. a3 ·ₖ apply C N lam (u ⊗ g)) (sym (mono-x C))))
       (apply-scale C N lam a0 g)
 
-module _ (K : Field) (C : Curve (K .ring)) (N : ℕ) {f : Coordinate C .Car} {d : ℕ} {lam : ℕ → K .ring .Car} (F : Functional C N f d lam) (room : d + largest-gap < N) (n : ℕ) (a4 a3 a0 : K .ring .Car) where
+module _ (K : Field) (C : Curve (K .ring)) (N : ℕ) {f : Coordinate C .Car} {d : ℕ} {lam : ℕ → K .ring .Car} (F : Functional C N f d lam)
+    (room : d + largest-gap < N) (n : ℕ) (a4 a3 a0 : K .ring .Car) where
   open CommRing (K .ring) using (Car, zero as 𝟘, one as 𝟙, add as _+ₖ_, mul as _·ₖ_, neg as -ₖ_)
   open CommRing (Coordinate C) using (Car as El, add as _⊕_, mul as _⊗_)
 
@@ -118,7 +122,8 @@ module _ (K : Field) (C : Curve (K .ring)) (N : ℕ) {f : Coordinate C .Car} {d 
           ∙ ap₂ _·ₖ_ (twist-one C 3 (d + 2) (omega arith)) (K .ring .mul-one 𝟙)
           ∙ K .ring .mul-one 𝟙
 
-  pub equation-v : (v : El) → Below C (suc (d + 5)) v → coefficient C (d + 5) v ≡ 𝟙 → a0 ≡ -ₖ (a3 ·ₖ apply C N lam (mono C 3 ⊗ v) +ₖ (a4 ·ₖ apply C N lam (mono C 4 ⊗ v) +ₖ apply C N lam (mono C n ⊗ v)))
+  pub equation-v : (v : El) → Below C (suc (d + 5)) v → coefficient C (d + 5) v ≡ 𝟙
+      → a0 ≡ -ₖ (a3 ·ₖ apply C N lam (mono C 3 ⊗ v) +ₖ (a4 ·ₖ apply C N lam (mono C 4 ⊗ v) +ₖ apply C N lam (mono C n ⊗ v)))
       → apply C N lam (candidate C n a4 a3 a0 ⊗ v) ≡ 𝟘
   equation-v v b o q =
       candidate-apply C N lam n a4 a3 a0 v

@@ -16,8 +16,8 @@ use Rattle.curve.specs.Monomial.{Below}
 use Rattle.curve.proofs.Term.{coefficient-add, coefficient-constant-mul}
 use Rattle.curve.proofs.Filtration.{below-coefficient}
 use Rattle.vector.specs.Contract.{total}
-use Rattle.star.specs.Functional.{apply}
-use Rattle.star.proofs.Total.{total-same, total-add, total-scale, total-zero, total-one}
+use Rattle.functional.specs.Functional.{apply}
+use Rattle.functional.proofs.Total.{total-same, total-add, total-scale, total-zero, total-one}
 
 module _ {k : CommRing} (C : Curve k) (N : ℕ) where
   open CommRing k using (Car, zero as 𝟘, one as 𝟙, add as _+ₖ_, mul as _·ₖ_, neg as -ₖ_)

@@ -1,6 +1,5 @@
 -- Elements of the colon ideal (f : J), f least in J with the pole number d.
 --   Killed J lam m g       J has an element u of pole number d + m for which the functional lam is 0 at g·u
---   by-gap                 what holds at the gaps 1, 2 and 5
 --   member                 g is in (f : J) if J has no lead d + m or g is killed at m, for m = 1, 2, 5
 --   all-members            every g is in (f : J) if J has none of these leads
 use mathlib.Core.Path.{_≡_, sym, subst}
@@ -18,10 +17,11 @@ use Rattle.curve.specs.Monomial.{Below}
 use Rattle.curve.proofs.Filtration.{below-more}
 use Rattle.curve.proofs.Product.{product-below}
 use Rattle.poles.specs.Poles.{poles}
-use Rattle.star.specs.Functional.{apply, Functional}
-use Rattle.star.proofs.Kernel.{functional-kernel}
+use Rattle.functional.specs.Functional.{apply, Functional}
+use Rattle.functional.proofs.Kernel.{functional-kernel}
 
-pub by-gap : (A : ℕ → Type 0) → A 1 → A 2 → A 5 → (m : ℕ) → IsGap m → A m
+-- what holds at the gaps 1, 2 and 5
+by-gap : (A : ℕ → Type 0) → A 1 → A 2 → A 5 → (m : ℕ) → IsGap m → A m
 by-gap A a b c m (inl e) = subst A (sym e) a
 by-gap A a b c m (inr (inl e)) = subst A (sym e) b
 by-gap A a b c m (inr (inr e)) = subst A (sym e) c
@@ -51,4 +51,6 @@ module _ (K : Field) (C : Curve (K .ring)) (nonzero : ¬ (C .a0 ≡ K .ring .zer
         → (¬ Lead (poles K C nonzero) J (d + 2)) ⊎ Killed J lam 2 g
         → (¬ Lead (poles K C nonzero) J (d + 5)) ⊎ Killed J lam 5 g → Colon (Coordinate C) f J g
     member i m lowest g b x y z =
-        colon-member (poles K C nonzero) pf i m lowest g (by-gap (λ n. (¬ Lead (poles K C nonzero) J (d + n)) ⊎ Taken (poles K C nonzero) f d J g (d + n)) (taken 1 (omega arith) g b x) (taken 2 (omega arith) g b y) (taken 5 (omega arith) g b z))
+        colon-member (poles K C nonzero) pf i m lowest g
+        (by-gap (λ n. (¬ Lead (poles K C nonzero) J (d + n)) ⊎ Taken (poles K C nonzero) f d J g (d + n))
+        (taken 1 (omega arith) g b x) (taken 2 (omega arith) g b y) (taken 5 (omega arith) g b z))

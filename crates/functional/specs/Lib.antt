@@ -1,0 +1,2 @@
+-- Linear functionals on the coordinate ring.
+pub mod Functional
