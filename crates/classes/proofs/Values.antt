@@ -14,6 +14,7 @@ use Rattle.ideal.specs.Reduced.{IsStar, IsReduced}
 use Rattle.ideal.proofs.Same.{same-refl}
 use Rattle.ideal.proofs.Class.{equivalent-same, equivalent-trans}
 use Rattle.ideal.proofs.Product.{product-same}
+use Rattle.ideal.proofs.Star.{star-same, reduced-same}
 use Rattle.layout.specs.Layout.{Bytes}
 use Rattle.ground.specs.declared.Ground.{Ground}
 use Rattle.basis.specs.declared.Divisor.{Divisor}
@@ -25,7 +26,7 @@ use Rattle.record.specs.Value.{bytes-of}
 use Rattle.record.proofs.Ground.{ground-at, ground-is, grounded-at}
 use Rattle.record.proofs.Written.{bytes-bytes-of}
 use Rattle.calls.specs.Class.{Ring, Record, Ideal, poles-on, IsSum, IsNegative, IsListSum}
-use Rattle.calls.proofs.Values.{star-same, reduced-same, ValueIdeal, value-record, value-ideal}
+use Rattle.calls.proofs.Values.{ValueIdeal, value-record, value-ideal}
 use Rattle.calls.proofs.Multiples.{class-list}
 
 pub given-record : (c w : List ℕ) {x : Divisor} → GivenOn c w x → Record c w
