@@ -8,7 +8,7 @@
 --   steps-of               the five pairs of d1 − d and d2 − d
 --   near-1, near-2         d1 is d + 1 or d + 4; d2 is d + 2 or d + 5 if it is not d + 8
 --   least-low              … and then d is at least 3
---   y-asked                what star asks of y_multiples
+--   multiples-asked        what star asks of multiples
 use mathlib.Core.Path.{_≡_, subst}
 use mathlib.Core.List.{List}
 use mathlib.Core.Logic.{_⊎_, inl, inr, ⊎-elim}
@@ -21,7 +21,6 @@ use Rattle.ideal.proofs.Gaps.{pole-apart}
 use Rattle.ideal.proofs.Degree.{monic-pole, pole-number}
 use Rattle.ideal.proofs.Leads.{Lead}
 use Rattle.vector.specs.Vector.{Vec, at, row, element}
-use Rattle.vector.specs.Contract.{YMultiplesAsked}
 use Rattle.triple.specs.Setting.{Setting, poles-of}
 use Rattle.triple.specs.Triple.{Present, Spanned}
 use Rattle.triple.proofs.Element.{present-monic}
@@ -29,7 +28,7 @@ use Rattle.triple.proofs.Members.{spanned-row}
 use Rattle.triple.proofs.Leads.{spanned-lead}
 use Rattle.functional.proofs.Degrees.{Degrees, degrees-lowest, Steps, steps-31, steps-21, steps-22, steps-11, steps-0, steps}
 use Rattle.ground.specs.declared.Ground.{Ground}
-use Rattle.star.specs.Contract.{StarAsked, LeastOf}
+use Rattle.star.specs.Contract.{StarAsked, LeastOf, MultiplesAsked}
 
 pub least-of : {d : List ℕ} {j : ℕ} → j < 3 → at d j ≤ at d 0 → at d j ≤ at d 1 → at d j ≤ at d 2 → LeastOf d j
 least-of {d} {j} h a b c = record { inside = h; lowest = go }
@@ -65,9 +64,14 @@ module _ {g : Ground} {t : List (List ℕ)} {d : List ℕ} (A : StarAsked g t d)
   member-lead : (i : ℕ) → i < 3 → Lead (poles-of S) (Spanned S t) (at d i)
   member-lead i h = (element p (S .curve) (row t i), in-span i h, member-pole i h)
 
-  pub y-asked : (i : ℕ) → i < 3 → at d i ≤ 17 → YMultiplesAsked p (g .cube) (row t i) (at d i + 1)
-  y-asked i h l =
-      record { f-vec = A .grounded .ready .f-vec; f-top = A .grounded .ready .f-top; v-vec = vec i h; v-top = λ n b. present i h .top n (omega arith); room = omega arith }
+  pub multiples-asked : (i : ℕ) → i < 3 → at d i ≤ 17 → MultiplesAsked g t i (at d i)
+  multiples-asked i h l =
+      let ready = A .grounded .ready in
+      record {
+        inside = h;
+        low = l;
+        asked = record { f-vec = ready .f-vec; f-top = ready .f-top; v-vec = vec i h; v-top = λ n b. present i h .top n (omega arith); room = omega arith };
+      }
 
   -- a lead of the class of the i-th member
   class-lead : (i n : ℕ) → n % 3 ≡ i → Lead (poles-of S) (Spanned S t) n → at d i ≤ n

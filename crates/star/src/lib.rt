@@ -1,8 +1,10 @@
 // The star of a triple J: the divisor of J* = (f : J), f the least member. J* is read off the functional Λ that is 0 below
 // d + 5, 1 at d + 5 and 0 at every multiple of f, d the degree of f. Of the other two members u has the degree d + 1 or
 // d + 4, and w the degree d + 2, d + 5 or d + 8.
-ghost use mathlib.Core.Path.{_≡_};
-ghost use Rattle.star.specs.Contract.{StarAsked, StarOf, LeastOf, FromAsked};
+ghost use Prim.Native.Nat.{_+_};
+ghost use Rattle.vector.specs.Vector.{row};
+ghost use Rattle.vector.specs.Contract.{YMultiples};
+ghost use Rattle.star.specs.Contract.{StarAsked, StarOf, LeastOf, MultiplesAsked, FromAsked};
 ghost use Rattle.star.specs.Lambda.{ValueAsked, Valued, ValueAtAsked, ValueAt, OppositeAsked, OppositeOf, FunctionalAsked, FunctionalOf};
 ghost use Rattle.star.specs.Parts.{PosedW, ValuesOf, TermYAsked, TermY, TermXAsked, TermX, TermOneAsked, TermOne, SolveAsked, Solved};
 ghost use Rattle.star.specs.Parts.{Posed, ByKind};
@@ -214,6 +216,14 @@ fn least(d: &[usize; 3]) -> usize
     0
 }
 
+// v, y·v and y²·v for the member v of the class j, of degree e.
+fn multiples(g: Ground, t: &[[u32; 26]; 3], j: usize, e: usize) -> [[u32; 26]; 3]
+    requires { ⌜ MultiplesAsked g (now t) j e ⌝ }
+    ensures { λ r. ⌜ YMultiples (g .p) (g .cube) (row (now (t .entry)) j) (e + 1) r ⌝ }
+{
+    vector::y_multiples(g.p, &g.cube, &t[j], e + 1)
+}
+
 // The star of a triple whose least degree is that of the class j, where it is not the zero class.
 fn star_from(g: Ground, t: &[[u32; 26]; 3], d: &[usize; 3], j: usize) -> Divisor
     requires { ⌜ FromAsked g (now t) (now d) j ⌝ }
@@ -224,9 +234,9 @@ fn star_from(g: Ground, t: &[[u32; 26]; 3], d: &[usize; 3], j: usize) -> Divisor
     let e = d[j];
     let e1 = d[j1];
     let e2 = d[j2];
-    let ys = vector::y_multiples(g.p, &g.cube, &t[j], e + 1);
-    let us = vector::y_multiples(g.p, &g.cube, &t[j1], e1 + 1);
-    let ws = vector::y_multiples(g.p, &g.cube, &t[j2], e2 + 1);
+    let ys = multiples(g, t, j, e);
+    let us = multiples(g, t, j1, e1);
+    let ws = multiples(g, t, j2, e2);
     let q = Pose {
         p: g.p,
         unit: g.unit,
