@@ -6,3 +6,4 @@ pub mod Sound
 pub mod Solve
 pub mod Cubic
 pub mod Modulo
+pub mod Answers

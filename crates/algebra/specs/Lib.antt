@@ -3,3 +3,4 @@ pub mod Ring
 pub mod RingMap
 pub mod Cubic
 pub mod Modulo
+pub mod Answers

@@ -12,11 +12,11 @@ use Rattle.ground.specs.declared.Ground.{Ground}
 use Rattle.ground.specs.Ground.{GroundAsked, GroundOf}
 use Rattle.record.specs.Cause.{Stage, FirstCause, Passes}
 use Rattle.record.specs.Curve.{curve-stages}
-use Rattle.record.specs.Reading.{CurveRead, On}
-use Rattle.record.specs.declared.CurveAnswer.{CurveAnswer}
-use Rattle.record.specs.declared.CurveAnswer.the-variants as curve
+use Rattle.reader.specs.Reading.{CurveRead, On}
+use Rattle.reader.specs.declared.CurveAnswer.{CurveAnswer}
+use Rattle.reader.specs.declared.CurveAnswer.the-variants as curve
 use Rattle.record.proofs.Cause.{first-append, passes-append}
-use Rattle.record.proofs.Ground.{ground-asked, on}
+use Rattle.reader.proofs.Ground.{ground-asked, on}
 use Rattle.calls.specs.Answer.{minus, Writes, refused, written, Returns, answered}
 
 module _ (c : List ℕ) (r : CurveAnswer) (h : CurveRead c r) where

@@ -20,12 +20,13 @@ use Rattle.basis.specs.declared.Divisor.{Divisor}
 use Rattle.record.specs.Cause.{Stage, FirstCause, Passes}
 use Rattle.record.specs.Curve.{modulus, equation, curve-stages}
 use Rattle.record.specs.Listed.{Listed}
-use Rattle.record.specs.Contract.{Known, WriteAsked, Written, WriteAnswer}
-use Rattle.record.specs.Reading.{GivenOn}
-use Rattle.record.specs.declared.DivisorAnswer.{DivisorAnswer}
-use Rattle.record.specs.declared.DivisorAnswer.the-variants as answer
+use Rattle.reader.specs.Contract.{WriteAsked, Written, WriteAnswer}
+use Rattle.kind.specs.Kinds.{Known}
+use Rattle.reader.specs.Reading.{GivenOn}
+use Rattle.reader.specs.declared.DivisorAnswer.{DivisorAnswer}
+use Rattle.reader.specs.declared.DivisorAnswer.the-variants as answer
 use Rattle.record.proofs.Cause.{first-append, passes-append}
-use Rattle.record.proofs.Codes.{size-most}
+use Rattle.divisor.proofs.Codes.{size-most}
 use Rattle.record.proofs.Written.{length-bytes-of}
 use Rattle.calls.specs.Answer.{Gives, Writes, refused, written}
 use Rattle.calls.specs.Call.{room, buffer, tally}

@@ -6,10 +6,10 @@ use mathlib.Core.List.{List}
 use Prim.Native.Nat.{ℕ, _<_, _≤_}
 use lib.ListN.{length}
 use lib.IntN.{ℤ}
-use Rattle.record.specs.Contract.{Known}
-use Rattle.record.specs.Reading.{GivenOn}
-use Rattle.record.specs.declared.DivisorAnswer.{DivisorAnswer}
-use Rattle.record.specs.declared.DivisorAnswer.the-variants as answer
+use Rattle.kind.specs.Kinds.{Known}
+use Rattle.reader.specs.Reading.{GivenOn}
+use Rattle.reader.specs.declared.DivisorAnswer.{DivisorAnswer}
+use Rattle.reader.specs.declared.DivisorAnswer.the-variants as answer
 use Rattle.calls.specs.Answer.{minus, Gives}
 use Rattle.calls.specs.Call.{room}
 

@@ -1,9 +1,9 @@
 // The nine calls. Each reads the curve, makes its ground, has the work done on it, and returns what the call is for or minus the number of the
 // first cause of refusal.
 use classes::TallyAnswer;
-use record::CurveAnswer;
-use record::DivisorAnswer;
-use record::TwoAnswer;
+use reader::CurveAnswer;
+use reader::DivisorAnswer;
+use reader::TwoAnswer;
 ghost use mathlib.Core.Path.{_≡_};
 ghost use Rattle.calls.specs.Answer.{minus};
 ghost use Rattle.calls.specs.Call.{CheckCurve, CheckDivisor, Sum, Double, Negative, Multiple, ListSum, Compare, Count};
@@ -24,10 +24,10 @@ pub fn written(found: DivisorAnswer, out: &mut [u8]) -> i32
 {
     match found {
         DivisorAnswer::Divisor(x) => {
-            if out.len() < record::ROOM {
+            if out.len() < reader::ROOM {
                 return refusal(10);
             }
-            let n = record::write_divisor(x, out);
+            let n = reader::write_divisor(x, out);
             n as i32
         }
         DivisorAnswer::Refused(n) => refusal(n),
@@ -38,7 +38,7 @@ pub fn written(found: DivisorAnswer, out: &mut [u8]) -> i32
 pub fn check_curve(curve: &[u8]) -> i32
     ensures { λ r. ⌜ CheckCurve (now (curve .entry)) r ⌝ }
 {
-    let read = record::read_curve(curve);
+    let read = reader::read_curve(curve);
     match read {
         CurveAnswer::Curve(_) => 1,
         CurveAnswer::Refused(n) => refusal(n),
@@ -49,11 +49,11 @@ pub fn check_curve(curve: &[u8]) -> i32
 pub fn check_divisor(curve: &[u8], divisor: &[u8]) -> i32
     ensures { λ r. ⌜ CheckDivisor (now (curve .entry)) (now (divisor .entry)) r ⌝ }
 {
-    let read = record::read_curve(curve);
+    let read = reader::read_curve(curve);
     match read {
         CurveAnswer::Curve(e) => {
             let g = ground::of(e);
-            let next = record::read_divisor(g, divisor);
+            let next = reader::read_divisor(g, divisor);
             match next {
                 DivisorAnswer::Divisor(_) => 1,
                 DivisorAnswer::Refused(n) => refusal(n),
@@ -67,7 +67,7 @@ pub fn check_divisor(curve: &[u8], divisor: &[u8]) -> i32
 pub fn sum(curve: &[u8], a: &[u8], b: &[u8], out: &mut [u8]) -> i32
     ensures { λ r. ⌜ Sum (now (curve .entry)) (now (a .entry)) (now (b .entry)) (now (out .entry)) r (now (out .exit)) ⌝ }
 {
-    let read = record::read_curve(curve);
+    let read = reader::read_curve(curve);
     match read {
         CurveAnswer::Curve(e) => {
             let g = ground::of(e);
@@ -82,7 +82,7 @@ pub fn sum(curve: &[u8], a: &[u8], b: &[u8], out: &mut [u8]) -> i32
 pub fn double(curve: &[u8], a: &[u8], out: &mut [u8]) -> i32
     ensures { λ r. ⌜ Double (now (curve .entry)) (now (a .entry)) (now (out .entry)) r (now (out .exit)) ⌝ }
 {
-    let read = record::read_curve(curve);
+    let read = reader::read_curve(curve);
     match read {
         CurveAnswer::Curve(e) => {
             let g = ground::of(e);
@@ -97,7 +97,7 @@ pub fn double(curve: &[u8], a: &[u8], out: &mut [u8]) -> i32
 pub fn negative(curve: &[u8], a: &[u8], out: &mut [u8]) -> i32
     ensures { λ r. ⌜ Negative (now (curve .entry)) (now (a .entry)) (now (out .entry)) r (now (out .exit)) ⌝ }
 {
-    let read = record::read_curve(curve);
+    let read = reader::read_curve(curve);
     match read {
         CurveAnswer::Curve(e) => {
             let g = ground::of(e);
@@ -112,7 +112,7 @@ pub fn negative(curve: &[u8], a: &[u8], out: &mut [u8]) -> i32
 pub fn multiple(curve: &[u8], a: &[u8], n: i64, out: &mut [u8]) -> i32
     ensures { λ r. ⌜ Multiple (now (curve .entry)) (now (a .entry)) n (now (out .entry)) r (now (out .exit)) ⌝ }
 {
-    let read = record::read_curve(curve);
+    let read = reader::read_curve(curve);
     match read {
         CurveAnswer::Curve(e) => {
             let g = ground::of(e);
@@ -127,7 +127,7 @@ pub fn multiple(curve: &[u8], a: &[u8], n: i64, out: &mut [u8]) -> i32
 pub fn list_sum(curve: &[u8], list: &[u8], out: &mut [u8]) -> i32
     ensures { λ r. ⌜ ListSum (now (curve .entry)) (now (list .entry)) (now (out .entry)) r (now (out .exit)) ⌝ }
 {
-    let read = record::read_curve(curve);
+    let read = reader::read_curve(curve);
     match read {
         CurveAnswer::Curve(e) => {
             let g = ground::of(e);
@@ -142,11 +142,11 @@ pub fn list_sum(curve: &[u8], list: &[u8], out: &mut [u8]) -> i32
 pub fn compare(curve: &[u8], a: &[u8], b: &[u8]) -> i32
     ensures { λ r. ⌜ Compare (now (curve .entry)) (now (a .entry)) (now (b .entry)) r ⌝ }
 {
-    let read = record::read_curve(curve);
+    let read = reader::read_curve(curve);
     match read {
         CurveAnswer::Curve(e) => {
             let g = ground::of(e);
-            let next = record::read_two(g, a, b);
+            let next = reader::read_two(g, a, b);
             match next {
                 TwoAnswer::Two(_, _) => { if layout::same_bytes(a, b) { 1 } else { 0 } }
                 TwoAnswer::Refused(n) => refusal(n),
@@ -160,7 +160,7 @@ pub fn compare(curve: &[u8], a: &[u8], b: &[u8]) -> i32
 pub fn count(curve: &[u8], list: &[u8], kind: u32) -> i32
     ensures { λ r. ⌜ Count (now (curve .entry)) (now (list .entry)) kind r ⌝ }
 {
-    let read = record::read_curve(curve);
+    let read = reader::read_curve(curve);
     match read {
         CurveAnswer::Curve(e) => {
             let g = ground::of(e);

@@ -18,8 +18,9 @@ module _ {g : Ground} {r : Divisor} {t : List (List ℕ)} {d : List ℕ} (o : Tr
       h = o .of (g .p) (a .kind) (a .grounded .ready .setting .prime) (a .shaped)
 
   pub basis-test : {b : Bool} → ClosedTest (g .p) (g .cube) t d b → BasisTest g r b
-  basis-test c =
+  basis-test c G κ s =
+      let h = o .of (g .p) κ (G .ready .setting .prime) s in
       record {
-        yes-basis = λ e G κ s. triple-closed (o .of (g .p) κ (G .ready .setting .prime) s) (G .ready .setting) (c .yes-closed e (G .ready));
-        no-basis = λ e G κ s. triple-open (o .of (g .p) κ (G .ready .setting .prime) s) (G .ready) (c .no-closed e (G .ready));
+        holds = λ e. triple-closed h (G .ready .setting) (c .yes-closed e (G .ready));
+        fails = λ e. triple-open h (G .ready) (c .no-closed e (G .ready));
       }

@@ -5,10 +5,11 @@
 --   Tripled p κ r t d, TripleOf    triple_of: the vectors stand for the members of the record
 --   BasisAsked, BasisTest          is_basis: is the record a basis
 use mathlib.Core.Path.{_≡_}
-use mathlib.Core.Bool.{Bool, true, false}
+use mathlib.Core.Bool.{Bool}
 use mathlib.Core.List.{List, [], _∷_, map}
 use Prim.Native.Nat.{ℕ}
 use lib.ListN.{set, replicate}
+use Rattle.algebra.specs.Answers.{Answers}
 use Rattle.prime.specs.Prime.{Prime}
 use Rattle.field.specs.Residue.{Z}
 use Rattle.curve.specs.Curve.{Curve}
@@ -55,6 +56,6 @@ pub record BasisAsked (g : Ground) (r : Divisor) : Type 0 where
   pub kind : Kind
   pub shaped : Shaped (g .p) kind r
 
-pub record BasisTest (g : Ground) (r : Divisor) (b : Bool) : Type 0 where
-  pub yes-basis : b ≡ true → (G : Grounded g) (κ : Kind) → Shaped (g .p) κ r → IsBasis (G .ready .setting .curve) κ (residues (g .p) r)
-  pub no-basis : b ≡ false → (G : Grounded g) (κ : Kind) → Shaped (g .p) κ r → ¬ IsBasis (G .ready .setting .curve) κ (residues (g .p) r)
+abbrev pub BasisTest : Ground → Divisor → Bool → Type 0
+BasisTest g r b =
+    (G : Grounded g) (κ : Kind) → Shaped (g .p) κ r → Answers (IsBasis (G .ready .setting .curve) κ (residues (g .p) r)) b

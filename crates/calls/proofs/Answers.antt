@@ -19,7 +19,7 @@ use Rattle.divisor.specs.Kind.{Kind}
 use Rattle.record.specs.Cause.{Stage, FirstCause, Passes}
 use Rattle.record.specs.Curve.{modulus, equation, curve-stages}
 use Rattle.record.proofs.Cause.{AllSound, sound-must, passes-refuses, one-cause, passes-append, first-append}
-use Rattle.record.proofs.Codes.{size-least, size-most}
+use Rattle.divisor.proofs.Codes.{size-least, size-most}
 use Rattle.record.proofs.Accepted.{Reads, accepted-reads}
 use Rattle.record.proofs.Lists.{curve-sound, divisor-sound, list-sound}
 use Rattle.calls.specs.Answer.{minus, Writes, refused, written, Returns, answered}

@@ -21,7 +21,7 @@ use Rattle.basis.specs.Divisor.{numbers, residues}
 use Rattle.basis.specs.declared.Divisor.{Divisor}
 use Rattle.group.specs.Contract.{ZeroClass, SumAsked, SumOf}
 use Rattle.record.specs.Curve.{modulus, equation, AcceptedCurve, accepted-prime, setting-of}
-use Rattle.record.specs.Reading.{On, GivenOn}
+use Rattle.reader.specs.Reading.{On, GivenOn}
 use Rattle.record.specs.Value.{bytes-of}
 use Rattle.record.proofs.Written.{bytes-of-kind}
 use Rattle.calls.specs.Call.{tally, one-if}

@@ -10,7 +10,7 @@ use lib.IntN.{ℤ, pos, negsuc}
 use Rattle.ground.specs.declared.Ground.{Ground}
 use Rattle.basis.specs.declared.Divisor.{Divisor}
 use Rattle.group.specs.Contract.{NegativeAsked, NegativeOf, MultipleOf}
-use Rattle.record.specs.Reading.{On, GivenOn}
+use Rattle.reader.specs.Reading.{On, GivenOn}
 use Rattle.calls.specs.Class.{IsListSum, IsMultiple}
 use Rattle.classes.specs.Found.{OnCurves, SignOf, MultipleMade}
 use Rattle.classes.specs.declared.Whole.{Whole}

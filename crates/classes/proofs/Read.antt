@@ -12,13 +12,13 @@ use Rattle.ground.specs.Ground.{AtGround}
 use Rattle.basis.specs.declared.Divisor.{Divisor}
 use Rattle.record.specs.Cause.{Stage, FirstCause}
 use Rattle.record.specs.Curve.{modulus, equation}
-use Rattle.record.specs.Reading.{On, GivenOn, DivisorRead, TwoRead}
-use Rattle.record.specs.declared.DivisorAnswer.{DivisorAnswer}
-use Rattle.record.specs.declared.DivisorAnswer.the-variants as answer
-use Rattle.record.specs.declared.TwoAnswer.{TwoAnswer}
-use Rattle.record.specs.declared.TwoAnswer.the-variants as two
+use Rattle.reader.specs.Reading.{On, GivenOn, DivisorRead, TwoRead}
+use Rattle.reader.specs.declared.DivisorAnswer.{DivisorAnswer}
+use Rattle.reader.specs.declared.DivisorAnswer.the-variants as answer
+use Rattle.reader.specs.declared.TwoAnswer.{TwoAnswer}
+use Rattle.reader.specs.declared.TwoAnswer.the-variants as two
 use Rattle.record.proofs.Cause.{passes-append}
-use Rattle.record.proofs.Ground.{at-curve}
+use Rattle.reader.proofs.Ground.{at-curve}
 use Rattle.calls.specs.Call.{divisor-of}
 use Rattle.classes.specs.Found.{Found, TallyFound}
 use Rattle.classes.specs.declared.TallyAnswer.{TallyAnswer}

@@ -21,9 +21,9 @@ use Rattle.basis.specs.declared.Divisor.{Divisor}
 use Rattle.group.specs.Contract.{IsDivisor, ideal, NegativeAsked, NegativeOf, SumAsked, SumOf, copies, MultipleOf}
 use Rattle.group.specs.Contract.{IsMultiple as IsCopies}
 use Rattle.record.specs.Curve.{AcceptedCurve, setting-of}
-use Rattle.record.specs.Reading.{On, GivenOn}
+use Rattle.reader.specs.Reading.{On, GivenOn}
 use Rattle.record.specs.Value.{bytes-of}
-use Rattle.record.proofs.Ground.{ground-at, ground-is, grounded-at}
+use Rattle.reader.proofs.Ground.{ground-at, ground-is, grounded-at}
 use Rattle.record.proofs.Written.{bytes-bytes-of}
 use Rattle.calls.specs.Class.{Ring, Record, Ideal, poles-on, IsSum, IsNegative, IsListSum}
 use Rattle.calls.proofs.Values.{ValueIdeal, value-record, value-ideal}

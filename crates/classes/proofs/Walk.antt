@@ -14,11 +14,11 @@ use Rattle.ground.specs.Ground.{AtGround}
 use Rattle.basis.specs.declared.Divisor.{Divisor}
 use Rattle.record.specs.Curve.{modulus, equation}
 use Rattle.record.specs.Listed.{AllAccepted, Listed, ListRefused}
-use Rattle.record.specs.Reading.{On, GivenOn, NextRead}
-use Rattle.record.specs.declared.NextAnswer.{NextAnswer}
-use Rattle.record.specs.declared.NextAnswer.the-variants as next
-use Rattle.record.proofs.Ground.{at-curve}
-use Rattle.record.proofs.ListReader.{Front, front-none, next-inside, front-more, front-refused, front-done}
+use Rattle.reader.specs.Reading.{On, GivenOn, NextRead}
+use Rattle.reader.specs.declared.NextAnswer.{NextAnswer}
+use Rattle.reader.specs.declared.NextAnswer.the-variants as next
+use Rattle.reader.proofs.Ground.{at-curve}
+use Rattle.reader.proofs.ListReader.{Front, front-none, next-inside, front-more, front-refused, front-done}
 use Rattle.classes.specs.Found.{Curved}
 
 abbrev pub Walked : Ground → List ℕ → ℕ → ((c : List ℕ) → List (List ℕ) → Type 0) → Type 0

@@ -15,9 +15,9 @@ use Rattle.basis.specs.declared.Divisor.{Divisor}
 use Rattle.record.specs.Cause.{Stage, FirstCause, Passes}
 use Rattle.record.specs.Curve.{modulus, equation}
 use Rattle.record.specs.Listed.{Listed}
-use Rattle.record.specs.Reading.{On, GivenOn}
-use Rattle.record.specs.declared.DivisorAnswer.{DivisorAnswer}
-use Rattle.record.specs.declared.DivisorAnswer.the-variants as answer
+use Rattle.reader.specs.Reading.{On, GivenOn}
+use Rattle.reader.specs.declared.DivisorAnswer.{DivisorAnswer}
+use Rattle.reader.specs.declared.DivisorAnswer.the-variants as answer
 use Rattle.calls.specs.Class.{IsListSum, IsMultiple}
 use Rattle.calls.specs.Call.{tally}
 use Rattle.classes.specs.declared.Whole.{Whole}

@@ -2,9 +2,9 @@
 // document 01's order and gives the result by value, or the number of the first cause of refusal.
 use basis::Divisor;
 use ground::Ground;
-use record::DivisorAnswer;
-use record::NextAnswer;
-use record::TwoAnswer;
+use reader::DivisorAnswer;
+use reader::NextAnswer;
+use reader::TwoAnswer;
 ghost use mathlib.Core.List.{[], _∷_, _++_};
 ghost use Prim.Native.Nat.{_≤_};
 ghost use Rattle.group.specs.Contract.{NegativeAsked};
@@ -31,7 +31,7 @@ pub fn sum_on(g: Ground, a: &[u8], b: &[u8]) -> DivisorAnswer
     requires { ⌜ Curved g ⌝ }
     ensures { λ r. ⌜ OnCurves g (λ c. Found c (divisor-of c (now (a .entry)) ++ divisor-of c (now (b .entry))) (IsSum c (now (a .entry)) (now (b .entry))) r) ⌝ }
 {
-    let read = record::read_two(g, a, b);
+    let read = reader::read_two(g, a, b);
     match read {
         TwoAnswer::Two(x, y) => {
             let r = group::sum(g, x, y);
@@ -46,7 +46,7 @@ pub fn double_on(g: Ground, a: &[u8]) -> DivisorAnswer
     requires { ⌜ Curved g ⌝ }
     ensures { λ r. ⌜ OnCurves g (λ c. Found c (divisor-of c (now (a .entry))) (IsSum c (now (a .entry)) (now (a .entry))) r) ⌝ }
 {
-    let read = record::read_divisor(g, a);
+    let read = reader::read_divisor(g, a);
     match read {
         DivisorAnswer::Divisor(x) => {
             let r = group::sum(g, x, x);
@@ -61,7 +61,7 @@ pub fn negative_on(g: Ground, a: &[u8]) -> DivisorAnswer
     requires { ⌜ Curved g ⌝ }
     ensures { λ r. ⌜ OnCurves g (λ c. Found c (divisor-of c (now (a .entry))) (IsNegative c (now (a .entry))) r) ⌝ }
 {
-    let read = record::read_divisor(g, a);
+    let read = reader::read_divisor(g, a);
     match read {
         DivisorAnswer::Divisor(x) => {
             let r = group::negative(g, x);
@@ -76,7 +76,7 @@ pub fn multiple_on(g: Ground, a: &[u8], n: i64) -> DivisorAnswer
     requires { ⌜ Curved g ⌝ }
     ensures { λ r. ⌜ OnCurves g (λ c. Found c (divisor-of c (now (a .entry))) (IsMultiple c (now (a .entry)) n) r) ⌝ }
 {
-    let read = record::read_divisor(g, a);
+    let read = reader::read_divisor(g, a);
     match read {
         DivisorAnswer::Divisor(x) => {
             let r = multiple_of(g, x, n);
@@ -91,7 +91,7 @@ pub fn list_sum_on(g: Ground, list: &[u8]) -> DivisorAnswer
     requires { ⌜ Curved g ⌝ }
     ensures { λ r. ⌜ OnCurves g (λ c. Found c (list-of c (now (list .entry))) (SumOfList c (now (list .entry))) r) ⌝ }
 {
-    if record::LIST_LIMIT < list.len() {
+    if reader::LIST_LIMIT < list.len() {
         return DivisorAnswer::Refused(11);
     }
     total(g, list)
@@ -102,7 +102,7 @@ pub fn count_on(g: Ground, list: &[u8], kind: u32) -> TallyAnswer
     requires { ⌜ Curved g ⌝ }
     ensures { λ r. ⌜ OnCurves g (λ c. TallyFound c (list-of c (now (list .entry))) (now (list .entry)) kind r) ⌝ }
 {
-    if list.len() > record::LIST_LIMIT {
+    if list.len() > reader::LIST_LIMIT {
         return TallyAnswer::Refused(11);
     }
     tally(g, list, kind)
@@ -142,7 +142,7 @@ fn total(g: Ground, list: &[u8]) -> DivisorAnswer
     let mut sum = group::zero_class();
     let mut at = 0;
     while at < list.len() {
-        let read = record::read_next(g, &list[at..]);
+        let read = reader::read_next(g, &list[at..]);
         match read {
             NextAnswer::Next(x, n) => {
                 let s = group::sum(g, sum, x);
@@ -166,7 +166,7 @@ fn tally(g: Ground, list: &[u8], kind: u32) -> TallyAnswer
     let mut count: u16 = 0;
     let mut at = 0;
     while at < list.len() {
-        let read = record::read_next(g, &list[at..]);
+        let read = reader::read_next(g, &list[at..]);
         match read {
             NextAnswer::Next(x, n) => {
                 if x.kind == kind {

@@ -9,3 +9,4 @@ pub mod Star
 pub mod Unique
 pub mod Exists
 pub mod Class
+pub mod Codes

@@ -1,9 +1,7 @@
 -- What the readers ensure.
 --   Read2 s i r    r is the two-byte number at place i of s
 --   Read4 s i r    r is the four-byte number at place i of s
---   Same a b r     r is true exactly if a and b are the same bytes
 use mathlib.Core.Path.{_≡_}
-use mathlib.Core.Bool.{Bool, true, false}
 use mathlib.Core.List.{List}
 use Prim.Native.Nat.{ℕ, _<_}
 use Rattle.layout.specs.Layout.{number2, number4}
@@ -15,7 +13,3 @@ pub record Read2 (s : List ℕ) (i r : ℕ) : Type 0 where
 pub record Read4 (s : List ℕ) (i r : ℕ) : Type 0 where
   pub is : r ≡ number4 s i
   pub small : r < 4294967296
-
-pub record Same (a b : List ℕ) (r : Bool) : Type 0 where
-  pub same : r ≡ true → a ≡ b
-  pub other : r ≡ false → a ≡ b → ⊥

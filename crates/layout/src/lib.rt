@@ -5,7 +5,8 @@ ghost use mathlib.Core.List.{[], _∷_, _++_};
 ghost use Prim.Native.Nat.{_+_, _*_, _≤_, _<_};
 ghost use lib.ListN.{getD, take, drop};
 ghost use Rattle.layout.specs.Layout.{bytes2, bytes4, all-bytes4, record-bytes};
-ghost use Rattle.layout.specs.Contracts.{Read2, Read4, Same};
+ghost use Rattle.layout.specs.Contracts.{Read2, Read4};
+ghost use Rattle.algebra.specs.Answers.{Answers};
 
 // A byte as a wider number.
 fn wide(b: u8) -> u32
@@ -73,38 +74,25 @@ pub fn write_numbers(out: &mut [u8], at: usize, ns: &[u32], count: usize)
     }
 }
 
-// Writes the record of the first `count` of the nine numbers at the start of `out`, and returns its length.
-pub fn write_record(
-    out: &mut [u8],
-    kind: u32,
-    count: usize,
-    n0: u32,
-    n1: u32,
-    n2: u32,
-    n3: u32,
-    n4: u32,
-    n5: u32,
-    n6: u32,
-    n7: u32,
-    n8: u32,
-) -> usize
-    requires { ⌜ count ≤ 9 ⌝ }
+// Writes the record of the first `count` numbers of ns at the start of `out`, and returns its length.
+pub fn write_record(out: &mut [u8], kind: u32, ns: &[u32], count: usize) -> usize
+    requires { ⌜ 4 + 4 * count < 65536 ⌝ }
     requires { ⌜ kind < 65536 ⌝ }
+    requires { do ⌜ count ≤ (← ⟦ns.len()⟧) ⌝ }
     requires { do ⌜ 4 + 4 * count ≤ (← ⟦out.len()⟧) ⌝ }
     ensures size { λ r. ⌜ r ≡ 4 + 4 * count ⌝ }
-    ensures written { λ _. ⌜ now (out .exit) ≡ record-bytes kind (take count (n0 ∷ n1 ∷ n2 ∷ n3 ∷ n4 ∷ n5 ∷ n6 ∷ n7 ∷ n8 ∷ [])) ++ drop (4 + 4 * count) (now (out .entry)) ⌝ }
+    ensures written { λ _. ⌜ now (out .exit) ≡ record-bytes kind (take count (now (ns .entry))) ++ drop (4 + 4 * count) (now (out .entry)) ⌝ }
 {
     let size = 4 + 4 * count;
     write_u16(out, 0, size as u32);
     write_u16(out, 2, kind);
-    let ns = [n0, n1, n2, n3, n4, n5, n6, n7, n8];
-    write_numbers(out, 4, &ns, count);
+    write_numbers(out, 4, ns, count);
     size
 }
 
 // Whether a and b are the same bytes.
 pub fn same_bytes(a: &[u8], b: &[u8]) -> bool
-    ensures { λ r. ⌜ Same (now (a .entry)) (now (b .entry)) r ⌝ }
+    ensures { λ r. ⌜ Answers (now (a .entry) ≡ now (b .entry)) r ⌝ }
 {
     if a.len() != b.len() {
         return false;

@@ -82,7 +82,7 @@ fn step(curve: &[u8], s: &mut [u8], n: usize, i: usize, j: usize, out: &mut [u8]
     ensures { λ r. ⌜ StepMade (now (curve .entry)) (now (s .entry)) n i j (now (out .entry)) (now (s .exit)) r ⌝ }
 {
     let r = sum_slots(curve, &s[..], i, j, out);
-    if out.len() < record::ROOM {
+    if out.len() < reader::ROOM {
         return n;
     }
     close_up(s, n, i, j);

@@ -16,7 +16,7 @@ use Rattle.field.specs.Residue.{Z}
 use Rattle.curve.specs.Curve.{Curve}
 use Rattle.layout.specs.Layout.{number2}
 use Rattle.basis.specs.declared.Divisor.{Divisor}
-use Rattle.record.specs.Reading.{DivisorGiven}
+use Rattle.reader.specs.Reading.{DivisorGiven}
 use Rattle.record.proofs.Written.{bytes-of-kind}
 use Rattle.calls.specs.Call.{one-if, tally}
 use Rattle.report.specs.Report.{typical, typicals, count-lines, share-line, sum-line, lines}

@@ -17,7 +17,7 @@ use Rattle.divisor.specs.Kind.{Kind, code, count, size, IdealOf, IsBasis}
 use Rattle.layout.specs.Layout.{Bytes, number2, number4, numbers, record-bytes}
 use Rattle.layout.proofs.Record.{record-whole}
 use Rattle.record.specs.Divisor.{of-kind, number-at, AcceptedDivisor, IdealOfBytes}
-use Rattle.record.proofs.Codes.{code-injective}
+use Rattle.divisor.proofs.Codes.{code-injective}
 
 pub same-kind : (s : List ℕ) (κ κ′ : Kind) → of-kind s κ → of-kind s κ′ → κ ≡ κ′
 same-kind s κ κ′ e e′ = code-injective κ κ′ (sym e ∙ e′)

@@ -4,13 +4,11 @@
 --   sound-must         the stage must n A is sound
 --   passes-refuses     what passes has no first cause
 --   one-cause          there is at most one first cause
---   AllNumbered ss     every stage of ss refuses with numbers from 1 to 11 only
---   numbered-must, numbered-append, cause-numbered    so a first cause is such a number
 --   passes-append, first-append    what passes, and the first cause, of two lists of stages one after the other
 use mathlib.Core.Path.{_≡_, sym, _∙_}
 use mathlib.Core.Logic.{_⊎_, inl, inr, _↔_}
 use mathlib.Core.List.{List, [], _∷_, _++_}
-use Prim.Native.Nat.{ℕ, _<_, _≤_}
+use Prim.Native.Nat.{ℕ}
 use Rattle.record.specs.Cause.{Stage, must, FirstCause, Passes}
 
 pub record Sound (s : Stage) : Type 0 where
@@ -23,26 +21,6 @@ AllSound (s ∷ ss) = Sound s × AllSound ss
 
 pub sound-must : (n : ℕ) (A : Type 0) → Sound (must n A)
 sound-must n A = record { exclusive = λ m r a. r .0 a; single = λ m k r t. r .1 ∙ sym (t .1) }
-
--- document 01's causes are numbered from 1 to 11
-abbrev pub Numbered : ℕ → Type 0
-Numbered n = (0 < n) × (n ≤ 11)
-
-abbrev pub AllNumbered : List Stage → Type 0
-AllNumbered [] = Unit
-AllNumbered (s ∷ ss) = ((n : ℕ) → s .refused n → Numbered n) × AllNumbered ss
-
-pub numbered-must : (n : ℕ) (A : Type 0) → Numbered n → (m : ℕ) → must n A .refused m → Numbered m
-numbered-must n A h m r = rw (r .1) h
-
-pub cause-numbered : (ss : List Stage) → AllNumbered ss → (n : ℕ) → FirstCause ss n → Numbered n
-cause-numbered [] h n f = absurd f
-cause-numbered (s ∷ ss) h n (inl r) = h .0 n r
-cause-numbered (s ∷ ss) h n (inr f) = cause-numbered ss (h .1) n (f .1)
-
-pub numbered-append : (ss ts : List Stage) → AllNumbered ss → AllNumbered ts → AllNumbered (ss ++ ts)
-numbered-append [] ts h k = k
-numbered-append (s ∷ ss) ts h k = (h .0, numbered-append ss ts (h .1) k)
 
 pub passes-refuses : (ss : List Stage) → AllSound ss → Passes ss → (n : ℕ) → FirstCause ss n → ⊥
 passes-refuses [] h p n f = f

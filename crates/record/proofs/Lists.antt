@@ -1,6 +1,5 @@
 -- Lists of records: reading from the front, and that a list is read in one way only.
 --   curve-sound, divisor-sound, next-sound, list-sound    what is checked refuses nothing that it passes, and with one number only
---   curve-numbered, divisor-numbered, next-numbered, list-numbered    … of 1 to 11
 --   joined-append, accepted-append    two runs of records one after the other
 --   next-accepted      where an accepted record starts, the next stages are passed
 --   next-record, next-step    where the next stages are passed, an accepted record starts: one record more is read
@@ -23,22 +22,10 @@ use Rattle.record.specs.Cause.{FirstCause, Passes}
 use Rattle.record.specs.Curve.{curve-stages}
 use Rattle.record.specs.Divisor.{divisor-stages, AcceptedDivisor}
 use Rattle.record.specs.Listed.{joined, next-stages, AllAccepted, Listed, ListRefused, list-stage}
-use Rattle.record.proofs.Cause.{Sound, AllSound, Numbered, AllNumbered, sound-must, numbered-must, cause-numbered, passes-refuses, one-cause}
+use Rattle.record.proofs.Cause.{Sound, AllSound, sound-must, passes-refuses, one-cause}
 
 pub curve-sound : (s : List ℕ) → AllSound (curve-stages s)
 curve-sound s = (sound-must _ _, (sound-must _ _, (sound-must _ _, (sound-must _ _, (sound-must _ _, (sound-must _ _, tt))))))
-
-pub curve-numbered : (s : List ℕ) → AllNumbered (curve-stages s)
-curve-numbered s = (
-  numbered-must _ _ (omega arith),
-  (
-    numbered-must _ _ (omega arith),
-    (
-      numbered-must _ _ (omega arith),
-      (numbered-must _ _ (omega arith), (numbered-must _ _ (omega arith), (numbered-must _ _ (omega arith), tt))),
-    ),
-  ),
-)
 
 pub joined-append : (rs ts : List (List ℕ)) → joined (rs ++ ts) ≡ joined rs ++ joined ts
 joined-append [] ts = refl
@@ -50,22 +37,6 @@ module _ (p : ℕ) (C : Curve (Z p)) where
 
   pub next-sound : (s : List ℕ) → AllSound (next-stages p C s)
   next-sound s = (sound-must _ _, (sound-must _ _, divisor-sound (take (number2 s 0) s)))
-
-  pub divisor-numbered : (s : List ℕ) → AllNumbered (divisor-stages p C s)
-  divisor-numbered s = (
-    numbered-must _ _ (omega arith),
-    (
-      numbered-must _ _ (omega arith),
-      (numbered-must _ _ (omega arith), (numbered-must _ _ (omega arith), (numbered-must _ _ (omega arith), tt))),
-    ),
-  )
-
-  pub next-numbered : (s : List ℕ) → AllNumbered (next-stages p C s)
-  next-numbered s =
-      (numbered-must _ _ (omega arith), (numbered-must _ _ (omega arith), divisor-numbered (take (number2 s 0) s)))
-
-  pub list-numbered : (s : List ℕ) (n : ℕ) → ListRefused p C s n → Numbered n
-  list-numbered s n f = cause-numbered (next-stages p C (f .left)) (next-numbered (f .left)) n (f .cause)
 
   pub accepted-append : (rs ts : List (List ℕ)) → AllAccepted p C rs → AllAccepted p C ts → AllAccepted p C (rs ++ ts)
   accepted-append [] ts a b = b

@@ -29,7 +29,7 @@ use Rattle.layout.specs.Layout.{Bytes}
 use Rattle.triple.specs.Setting.{Setting, ring, poles-of}
 use Rattle.record.specs.Curve.{limit, equation, AcceptedCurve, accepted-limit, setting-of}
 use Rattle.record.specs.Divisor.{AcceptedDivisor, IdealOfBytes}
-use Rattle.record.proofs.Codes.{size-least, size-most}
+use Rattle.divisor.proofs.Codes.{size-least, size-most}
 use Rattle.record.proofs.Accepted.{reads-accepted}
 use Rattle.record.proofs.Unique.{accepted-unique, residue-record, residue-record-bytes, residue-record-length, residue-record-reads, residue-record-ideal}
 

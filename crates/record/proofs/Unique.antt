@@ -23,7 +23,7 @@ use Rattle.layout.proofs.Bytes.{bytes-record}
 use Rattle.layout.proofs.Read.{length-numbers, numbers-at}
 use Rattle.triple.specs.Setting.{Setting, ring}
 use Rattle.record.specs.Divisor.{number-at, AcceptedDivisor, IdealOfBytes}
-use Rattle.record.proofs.Codes.{ideal-same, basis-same}
+use Rattle.divisor.proofs.Codes.{ideal-same, basis-same}
 use Rattle.record.proofs.Accepted.{Reads, accepted-reads, reads-whole, ideal-reads}
 use Rattle.record.proofs.Written.{written-length, written-reads, written-ideal}
 

@@ -9,8 +9,6 @@
 --   Holds κ s r        the value r has the kind κ and the numbers of the record s
 --   read-back          an accepted record is the record of the value that has its kind and numbers
 --   read-based         such a value is a basis
---   given-ideal        the ideal of the bytes that were read is that of the value
---   written-out        what write_divisor leaves, by the record's own length
 use mathlib.Core.Path.{_≡_, sym, ap, _∙_, subst}
 use mathlib.Core.Logic.{Iff·trans}
 use mathlib.Core.List.{List, [], _∷_, _++_, append-nil}
@@ -32,9 +30,7 @@ use Rattle.basis.specs.Divisor.{numbers, residues, Shaped, Based}
 use Rattle.basis.specs.declared.Divisor.{Divisor}
 use Rattle.record.specs.Divisor.{of-kind, number-at, AcceptedDivisor, IdealOfBytes}
 use Rattle.record.specs.Value.{bytes-of}
-use Rattle.record.specs.Contract.{Written}
-use Rattle.record.specs.Reading.{DivisorGiven}
-use Rattle.record.proofs.Codes.{code-small, count-small, ideal-same, basis-same}
+use Rattle.divisor.proofs.Codes.{code-small, count-small, ideal-same, basis-same}
 use Rattle.record.proofs.Accepted.{Reads, reads-accepted, reads-whole, ideal-reads}
 
 -- the first numbers of a list are below what all of them are below
@@ -165,15 +161,3 @@ module _ (p : ℕ) (C : Curve (Z p)) (κ : Kind) (s : List ℕ) (r : Divisor) (h
         shaped = h .shaped;
         basis = basis-same C (number-at p s) (residues p r) κ (λ i l. ap (el p) (sym (h .number i l))) b;
       }
-
-pub given-ideal : (p : ℕ) (C : Curve (Z p)) → p ≤ 4294967296 → (s : List ℕ) (r : Divisor) (g : DivisorGiven p C s r)
-    → SameIdeal (Coordinate C) (IdealOfBytes p C s) (IdealOf C (g .kind) (residues p r))
-given-ideal p C fits s r g =
-    subst (λ (t : List ℕ). SameIdeal (Coordinate C) (IdealOfBytes p C t) (IdealOf C (g .kind) (residues p r))) (g .bytes)
-    (bytes-of-ideal p C fits (g .kind) r (g .based .shaped))
-
-pub written-out : (r : Divisor) (out out′ : List ℕ) (n : ℕ) (κ : Kind) → Written r out out′ n κ
-    → (n ≡ length (bytes-of κ r)) × (out′ ≡ bytes-of κ r ++ drop (length (bytes-of κ r)) out)
-written-out r out out′ n κ w =
-    let e = length-bytes-of κ r in
-    (w .long ∙ sym e, w .bytes ∙ ap (λ (m : ℕ). bytes-of κ r ++ drop m out) (sym e))

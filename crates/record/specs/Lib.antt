@@ -4,5 +4,3 @@ pub mod Curve
 pub mod Divisor
 pub mod Listed
 pub mod Value
-pub mod Contract
-pub mod Reading

@@ -4,7 +4,7 @@ use mathlib.Core.Path.{refl, _∙_}
 use denote.Ref.{now}
 use Rattle.record.specs.Curve.{curve-stages}
 use Rattle.calls.specs.Answer.{refused, answered}
-use Rattle.record.proofs.Ground.{grounded-on}
+use Rattle.reader.proofs.Ground.{grounded-on}
 use Rattle.classes.proofs.Read.{read-given, read-refused}
 use Rattle.answer.proofs.Curve.{curve-passes, curve-asked, curve-on, curve-cause, returns-after, returns-curve}
 use Rattle.answer.proofs.Number.{kept}

@@ -6,7 +6,7 @@ use denote.Ref.{now}
 use Rattle.record.specs.Curve.{curve-stages}
 use Rattle.calls.specs.Answer.{refused, answered}
 use Rattle.record.proofs.Cause.{passes-append}
-use Rattle.record.proofs.Ground.{grounded-on}
+use Rattle.reader.proofs.Ground.{grounded-on}
 use Rattle.calls.specs.Call.{divisor-of}
 use Rattle.classes.proofs.Read.{pair-given, pair-refused}
 use Rattle.answer.proofs.Curve.{curve-passes, curve-asked, curve-on, curve-cause, returns-after, returns-curve}
@@ -60,7 +60,7 @@ returns c =
     let next = c .before .before .before .before .read-two in
     let v = pair-given o a b (next .result) (next .ensures) _ _ (c .before .before .enum-told .given .1) in
     returns-after (curve-stages k) _ (curve-passes k (read .result) (read .ensures) _ is)
-    (answered (passes-append (divisor-of k a) (divisor-of k b) .1 (v .0 .accepted, v .1 .accepted)) (inl (c .before .same-bytes .ensures .same (c .if1 .taken), refl)))
+    (answered (passes-append (divisor-of k a) (divisor-of k b) .1 (v .0 .accepted, v .1 .accepted)) (inl (c .before .same-bytes .ensures .holds (c .if1 .taken), refl)))
 
 returns-2 : tie.Need-returns-2
 returns-2 c =
@@ -74,7 +74,7 @@ returns-2 c =
     let next = c .before .before .before .before .read-two in
     let v = pair-given o a b (next .result) (next .ensures) _ _ (c .before .before .enum-told .given .1) in
     returns-after (curve-stages k) _ (curve-passes k (read .result) (read .ensures) _ is)
-    (answered (passes-append (divisor-of k a) (divisor-of k b) .1 (v .0 .accepted, v .1 .accepted)) (inr (c .before .same-bytes .ensures .other (c .if1 .left), refl)))
+    (answered (passes-append (divisor-of k a) (divisor-of k b) .1 (v .0 .accepted, v .1 .accepted)) (inr (c .before .same-bytes .ensures .fails (c .if1 .left), refl)))
 
 returns-3 : tie.Need-returns-3
 returns-3 c =

@@ -2,8 +2,8 @@
 use borrow.Author.Needs.{needs}
 use mathlib.Core.Path.{refl, _∙_}
 use native.Mathlib.Omega.{arith}
-use Rattle.record.specs.declared.DivisorAnswer.{DivisorAnswer}
-use Rattle.record.specs.declared.DivisorAnswer.the-variants as answer
+use Rattle.reader.specs.declared.DivisorAnswer.{DivisorAnswer}
+use Rattle.reader.specs.declared.DivisorAnswer.the-variants as answer
 use Rattle.answer.specs.Written.{Writable}
 use Rattle.answer.proofs.Write.{write-asked, write-fits, wrote, wrote-answer, known}
 use Rattle.answer.proofs.Number.{kept}

@@ -4,7 +4,7 @@ use denote.Ref.{now}
 use mir.Facts.{toZ-ofZ}
 use mathlib.Core.Path.{subst}
 use lib.IntN.{ℤ}
-use Rattle.record.proofs.Ground.{grounded-on}
+use Rattle.reader.proofs.Ground.{grounded-on}
 use Rattle.classes.specs.Found.{MultipleMade}
 use Rattle.classes.proofs.Values.{one-asked}
 use Rattle.classes.proofs.Read.{read-given, read-refused, found-one}

@@ -1,7 +1,7 @@
 -- The divisor is read, and negated.
 use borrow.Author.Needs.{needs}
 use denote.Ref.{now}
-use Rattle.record.proofs.Ground.{grounded-on}
+use Rattle.reader.proofs.Ground.{grounded-on}
 use Rattle.classes.proofs.Values.{negative-made, one-asked}
 use Rattle.classes.proofs.Read.{read-given, read-refused, found-one}
 use Rattle.classes.proofs.negative_on.Statement.{statement}

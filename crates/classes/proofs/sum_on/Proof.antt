@@ -1,7 +1,7 @@
 -- The two divisors are read, and added.
 use borrow.Author.Needs.{needs}
 use denote.Ref.{now}
-use Rattle.record.proofs.Ground.{grounded-on}
+use Rattle.reader.proofs.Ground.{grounded-on}
 use Rattle.classes.proofs.Values.{two-asked, sum-made}
 use Rattle.classes.proofs.Read.{pair-given, pair-refused, found-two}
 use Rattle.classes.proofs.sum_on.Statement.{statement}

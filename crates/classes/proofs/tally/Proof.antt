@@ -6,7 +6,7 @@ use native.Mathlib.Omega.{arith}
 use lib.ListN.{length}
 use denote.Ref.{now}
 use borrow.Author.Needs.{needs}
-use Rattle.record.proofs.Ground.{grounded-on}
+use Rattle.reader.proofs.Ground.{grounded-on}
 use Rattle.classes.proofs.Walk.{Walked, walked-start, walked-more, walked-refused, walked-end, next-bounds, part-from}
 use Rattle.classes.proofs.Lists.{Tallied, tallied-yes, tallied-no}
 use Rattle.classes.proofs.tally.Statement.{statement}

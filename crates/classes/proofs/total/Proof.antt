@@ -5,7 +5,7 @@ use native.Mathlib.Omega.{arith}
 use lib.ListN.{length}
 use denote.Ref.{now}
 use borrow.Author.Needs.{needs}
-use Rattle.record.proofs.Ground.{grounded-on}
+use Rattle.reader.proofs.Ground.{grounded-on}
 use Rattle.classes.proofs.Walk.{Walked, walked-start, walked-more, walked-refused, walked-end, next-bounds, next-given, part-from}
 use Rattle.classes.proofs.Lists.{Summed, summed-none, summed-asked, summed-more}
 use Rattle.classes.proofs.total.Statement.{statement}

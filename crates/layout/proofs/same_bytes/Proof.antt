@@ -18,7 +18,7 @@ abbrev μ-loop : tie.MeasureT-loop
 μ-loop a b i₀ i = length a - i
 
 returns : tie.Need-returns Inv-loop μ-loop
-returns c = record { same = λ e. absurd (false≢true e); other = λ e s. c .if1 .taken (ap length s) }
+returns c = record { holds = λ e. absurd (false≢true e); fails = λ e s. c .if1 .taken (ap length s) }
 
 loop-holds : tie.Need-loop-holds Inv-loop μ-loop
 loop-holds c = search needs
@@ -32,7 +32,7 @@ shared-slice-read-if2-2 c = search needs
 returns-2 : tie.Need-returns-2 Inv-loop μ-loop
 returns-2 c =
     let i = c .before .before .before .before .loop .i in
-    record { same = λ e. absurd (false≢true e); other = λ e s. c .if2 .taken (ap (λ (l : List ℕ). getD l i 0) s) }
+    record { holds = λ e. absurd (false≢true e); fails = λ e s. c .if2 .taken (ap (λ (l : List ℕ). getD l i 0) s) }
 
 add-i : tie.Need-add-i Inv-loop μ-loop
 add-i c = search needs
@@ -47,8 +47,8 @@ returns-3 : tie.Need-returns-3 Inv-loop μ-loop
 returns-3 c =
     let a = c .before .before .before .args in
     record {
-      same = λ e. ext-getD 0 (a .a .now) (a .b .now) (omega arith) (λ k h. c .before .loop .inv .1 k (omega arith));
-      other = λ e. absurd (true≢false e);
+      holds = λ e. ext-getD 0 (a .a .now) (a .b .now) (omega arith) (λ k h. c .before .loop .inv .1 k (omega arith));
+      fails = λ e. absurd (true≢false e);
     }
 
 pub same-bytes-spec : {M : Type 1} → statement M

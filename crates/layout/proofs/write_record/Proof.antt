@@ -1,6 +1,5 @@
 -- `layout::write_record` meets its contract: a length, a kind and numbers, written one after the other, are a record.
 use mathlib.Core.Path.{refl}
-use mathlib.Core.List.{[], _∷_}
 use native.Mathlib.Omega.{arith}
 use Rattle.layout.proofs.Stores.{written}
 use borrow.Author.Needs.{needs}
@@ -22,9 +21,6 @@ write-u16-requires c κs = search needs
 write-u16-requires-2 : tie.Need-write-u16-requires-2
 write-u16-requires-2 c κs = search needs
 
-slice-aggregate-write-numbers : tie.Need-slice-aggregate-write-numbers
-slice-aggregate-write-numbers c = search needs
-
 write-numbers-requires : tie.Need-write-numbers-requires
 write-numbers-requires c κs = search needs
 
@@ -34,13 +30,13 @@ same-length c = search needs
 returns : tie.Need-returns
 returns c =
     let third = c .before .before in
-    let second = third .before .before .before .before .before in
+    let second = third .before .before .before .before in
     let first = second .before .before .before .before in
-    let a = first .before .before .before .args in (
+    let a = first .before .before .before .before .args in (
       refl,
       written (a .out .now) (first .write-u16 .last .0) (second .write-u162 .last .0) (third .write-numbers .last .0)
-          (a .n0 ∷ a .n1 ∷ a .n2 ∷ a .n3 ∷ a .n4 ∷ a .n5 ∷ a .n6 ∷ a .n7 ∷ a .n8 ∷ [])
-          (a .kind) (a .count) (omega arith) (omega arith) (first .write-u16 .ensures) (second .write-u162 .ensures) (third .write-numbers .ensures),
+          (a .ns .now) (a .kind) (a .count) (omega arith) (omega arith)
+          (first .write-u16 .ensures) (second .write-u162 .ensures) (third .write-numbers .ensures),
     )
 
 pub write-record-spec : {M : Type 1} → statement M
@@ -52,7 +48,6 @@ write-record-spec =
     cast-write-u16
     write-u16-requires
     write-u16-requires-2
-    slice-aggregate-write-numbers
     write-numbers-requires
     same-length
     returns)

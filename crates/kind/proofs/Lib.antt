@@ -1,0 +1,2 @@
+-- Why the table is right.
+pub mod Codes

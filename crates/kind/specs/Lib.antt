@@ -1,0 +1,2 @@
+-- The kinds of divisor records by their numbers.
+pub mod Kinds

@@ -1,0 +1,58 @@
+-- The ground of an accepted curve is that of the curve of its bytes.
+--   ground-asked, on   an accepted curve has a ground
+--   ground-at, ground-is, grounded-at, grounded-on      it is the ground of the curve of the bytes
+--   at-curve           what holds at the ground holds of the curve of the bytes
+use mathlib.Core.Path.{_≡_, refl, sym, ap, subst}
+use mathlib.Core.List.{List}
+use Prim.Native.Nat.{ℕ, _<_}
+use Rattle.field.specs.Residue.{Z}
+use Rattle.curve.specs.Curve.{Curve}
+use Rattle.vector.specs.Contract.{Cube}
+use Rattle.triple.specs.Equation.{Coefficients}
+use Rattle.triple.specs.declared.equation.Equation.{Equation}
+use Rattle.ground.specs.declared.Ground.{Ground}
+use Rattle.ground.specs.Ground.{Unit-of, Grounded, AtGround, GroundAsked, GroundOf}
+use Rattle.record.specs.Curve.{modulus, equation, AcceptedCurve, accepted-prime, accepted-below, setting-of}
+use Rattle.reader.specs.Reading.{equation-value, On}
+use Rattle.reader.proofs.CurveReader.{curve-value, below-coefficients, coefficient-at}
+
+module _ (c : List ℕ) (A : AcceptedCurve c) where
+  value-coefficients : Coefficients (equation-value c)
+  value-coefficients =
+      below-coefficients (equation-value c) refl (accepted-prime c A)
+      (λ i l. subst (λ (m : ℕ). m < modulus c) (sym (coefficient-at c i l)) (accepted-below c A i l))
+
+  module _ (e : Equation) (q : e ≡ equation-value c) where
+    pub ground-asked : GroundAsked e
+    ground-asked = subst GroundAsked (sym q) (record { coefficients = value-coefficients; one = refl })
+
+    pub on : (g : Ground) → GroundOf e g → On c g
+    on g h = record { accepted = A; ground = subst (λ (x : Equation). GroundOf x g) q h }
+
+-- g with the modulus that the bytes c have
+abbrev pub ground-at : List ℕ → Ground → Ground
+ground-at c g = record { p = modulus c; unit = g .unit; cube = g .cube }
+
+module _ {c : List ℕ} {g : Ground} (o : On c g) where
+  pub ground-is : g ≡ ground-at c g
+  ground-is = ap (λ (p : ℕ). record { p = p; unit = g .unit; cube = g .cube }) (o .ground .modulus)
+
+  -- its curve is that of the bytes
+  abbrev pub grounded-at : Grounded (ground-at c g)
+  grounded-at =
+      record {
+        ready =
+            record {
+              setting = setting-of c (o .accepted);
+              f-vec = o .ground .cube-is .vec;
+              f-top = o .ground .cube-is .top;
+              cube = subst (λ (C : Curve (Z (modulus c))). Cube (modulus c) C (g .cube)) (curve-value c) (o .ground .cube-is .cube);
+            };
+        unit-is = subst (λ (C : Curve (Z (modulus c))). Unit-of (modulus c) (g .unit) C) (curve-value c) (o .ground .unit-is);
+      }
+
+  pub grounded-on : Grounded g
+  grounded-on = subst Grounded (sym ground-is) grounded-at
+
+  pub at-curve : (X : (p : ℕ) → Curve (Z p) → Type 0) → AtGround g X → X (modulus c) (equation c)
+  at-curve X h = subst (λ (k : Ground). AtGround k X) ground-is h grounded-at
