@@ -14,6 +14,9 @@ ghost use Rattle.report.specs.Report.{rounded, per-cent, share-line, count-line
 ghost use Rattle.printing.specs.Tallied.{TalliesOf, Bounded, OneIf, TypicalTest, AddedTo};
 ghost use Rattle.printing.specs.Contracts.{AllPut};
 
+// The most bytes that are printed.
+pub const LONGEST: usize = 256;
+
 // How many records of a list have each of the five kinds, how many are typical, and how many there are.
 pub struct Tallies {
     pub n0: u32,
@@ -92,11 +95,11 @@ fn put_line(out: &mut [u8], at: usize, name: &[u8], n: u32) -> usize
 }
 
 // The line of a refusal, at the start.
-pub fn put_refused(out: &mut [u8], n: u32) -> usize
+pub fn put_refused(out: &mut [u8], n: u8) -> usize
     requires { do ⌜ 19 ≤ (← ⟦out.len()⟧) ⌝ }
     ensures { λ r. ⌜ Placed (now (out .entry)) 0 (refused-line n) 19 r (now (out .exit)) ⌝ }
 {
-    put_line(out, 0, b"refused ", n)
+    put_line(out, 0, b"refused ", n as u32)
 }
 
 // The lines of the five kinds.
