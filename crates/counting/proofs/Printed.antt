@@ -9,14 +9,14 @@ use mathlib.Core.Logic.{inl, inr}
 use mathlib.Core.List.{List, _++_}
 use Prim.Native.Nat.{ℕ, _≤_}
 use native.Mathlib.Omega.{arith}
-use lib.ListN.{length, take, drop, length-take}
+use lib.ListN.{length, take, length-take}
 use lib.Seq.{take-at}
 use Rattle.text.specs.Put.{Put, Placed}
 use Rattle.divisor.specs.Kind.{Kind, code}
 use Rattle.basis.specs.declared.Divisor.{Divisor}
 use Rattle.record.specs.Cause.{Stage, FirstCause, Passes}
 use Rattle.record.specs.Curve.{curve-stages}
-use Rattle.record.specs.Contract.{Known, WriteAsked, WriteAnswer}
+use Rattle.record.specs.Contract.{Known, WriteAnswer}
 use Rattle.record.specs.Reading.{GivenOn}
 use Rattle.record.specs.Value.{bytes-of}
 use Rattle.record.proofs.Cause.{first-append, passes-append}
@@ -25,7 +25,7 @@ use Rattle.record.proofs.Written.{written-out}
 use Rattle.calls.specs.Call.{room, list-of}
 use Rattle.report.specs.Report.{refused-line, lines, refused, counted}
 use Rattle.printing.specs.declared.Tallies.{Tallies}
-use Rattle.printing.specs.Contracts.{AllPut}
+use Rattle.printing.specs.Contracts.{longest, AllPut}
 use Rattle.printing.proofs.More.{tallies-bounded}
 use Rattle.counting.specs.declared.PassAnswer.{PassAnswer}
 use Rattle.counting.specs.declared.PassAnswer.the-variants as answer
@@ -77,7 +77,7 @@ module _ {p : PassAnswer} {out out′ : List ℕ} {r : ℕ} where
   refused-put e h = subst (λ (d : PassAnswer). PassPut d out r out′) (sym e) (record { put = h .put; short = omega (arith, h .within) })
 
 module _ (c s : List ℕ) {out out′ : List ℕ} {r : ℕ} where
-  printed-refused : (n : ℕ) → FirstCause (curve-stages c ++ list-of c s) n → Put out 0 (refused-line n) r out′ → r ≤ 256 → PrintedOn c s out r out′
+  printed-refused : (n : ℕ) → FirstCause (curve-stages c ++ list-of c s) n → Put out 0 (refused-line n) r out′ → r ≤ longest → PrintedOn c s out r out′
   printed-refused n f h l = record { text = refused-line n; report = refused n f refl; put = h; short = l }
 
   pub printed-found : (p : PassAnswer) → Passes (curve-stages c) → PassFound c (list-of c s) s p → PassPut p out r out′ → PrintedOn c s out r out′

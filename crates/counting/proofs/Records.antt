@@ -3,7 +3,6 @@
 --   sum-asked, add-asked     the next divisor may be added to the sum, and its record to the tallies
 --   totals-more          one record more
 --   found-next           one stage before others
-use mathlib.Core.Path.{ap}
 use mathlib.Core.Logic.{inr}
 use mathlib.Core.List.{List, [], _∷_}
 use Prim.Native.Nat.{ℕ, _<_, _≤_}
@@ -17,7 +16,6 @@ use Rattle.record.specs.Curve.{modulus, equation, accepted-limit}
 use Rattle.record.specs.Listed.{list-limit}
 use Rattle.record.specs.Reading.{On, GivenOn}
 use Rattle.record.proofs.Lists.{listed-short}
-use Rattle.record.proofs.ListReader.{Front}
 use Rattle.classes.specs.Found.{Curved}
 use Rattle.classes.proofs.Walk.{Walked, More}
 use Rattle.classes.proofs.Lists.{summed-none, summed-asked, summed-more}

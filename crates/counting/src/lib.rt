@@ -7,19 +7,20 @@ use record::NextAnswer;
 ghost use mathlib.Core.List.{[], _∷_};
 ghost use mathlib.Core.Path.{_≡_};
 ghost use Prim.Native.Nat.{_≤_, min};
-ghost use Rattle.record.specs.Curve.{modulus, equation};
+ghost use Rattle.record.specs.Curve.{modulus, equation, curve-size};
 ghost use Rattle.record.specs.Listed.{list-stage, list-limit};
 ghost use Rattle.calls.specs.Call.{list-of};
 ghost use Rattle.classes.specs.Found.{Curved, OnCurves};
 ghost use Rattle.report.specs.Report.{Report};
 ghost use Rattle.report.specs.Input.{enough, ReportsRead};
+ghost use Rattle.printing.specs.Contracts.{longest};
 ghost use Rattle.counting.specs.Contracts.{PassFound, Printable, PassPut, PrintedOn};
 
 // The length of a curve's record.
 const CURVE_SIZE: usize = 44;
 
 // Room for a curve and one byte more than the longest list.
-const INPUT_ROOM: usize = 32813;
+pub const INPUT_ROOM: usize = CURVE_SIZE + record::LIST_LIMIT + 1;
 
 // The sum and the tallies of the records of a list, or the number of the first cause of refusal.
 pub enum PassAnswer {
@@ -68,7 +69,7 @@ fn pass_on(g: Ground, list: &[u8]) -> PassAnswer
 // All that is printed for what was found of a list.
 fn put_pass(out: &mut [u8], p: PassAnswer) -> usize
     requires { ⌜ Printable p ⌝ }
-    requires { do ⌜ 256 ≤ (← ⟦out.len()⟧) ⌝ }
+    requires { do ⌜ longest ≤ (← ⟦out.len()⟧) ⌝ }
     ensures { λ r. ⌜ PassPut p (now (out .entry)) r (now (out .exit)) ⌝ }
 {
     match p {
@@ -83,7 +84,7 @@ fn put_pass(out: &mut [u8], p: PassAnswer) -> usize
 
 // All that is printed for a curve and a list.
 fn put_report(out: &mut [u8], curve: &[u8], list: &[u8]) -> usize
-    requires { do ⌜ 256 ≤ (← ⟦out.len()⟧) ⌝ }
+    requires { do ⌜ longest ≤ (← ⟦out.len()⟧) ⌝ }
     ensures { λ r. ⌜ PrintedOn (now (curve .entry)) (now (list .entry)) (now (out .entry)) r (now (out .exit)) ⌝ }
 {
     let read = record::read_curve(curve);
@@ -99,7 +100,7 @@ fn put_report(out: &mut [u8], curve: &[u8], list: &[u8]) -> usize
 
 // How many of n bytes are the curve: the length of its record, or all, if fewer.
 fn curve_end(n: usize) -> usize
-    ensures { λ r. ⌜ r ≡ min n 44 ⌝ }
+    ensures { λ r. ⌜ r ≡ min n curve-size ⌝ }
 {
     if n < CURVE_SIZE {
         return n;

@@ -1,6 +1,6 @@
 -- `counting::put_report` meets its contract: what is printed for the records once the curve is accepted, or the line of the curve's refusal.
-use native.Mathlib.Omega.{arith}
 use denote.Ref.{now}
+use Rattle.triple.specs.declared.equation.Equation.{Equation}
 use Rattle.calls.specs.Call.{list-of}
 use Rattle.answer.proofs.Curve.{curve-passes, curve-asked, curve-on, curve-cause}
 use Rattle.counting.proofs.Printed.{printable, printed-found, printed-cause}
@@ -18,7 +18,8 @@ of-requires : tie.Need-of-requires
 of-requires c κs =
     let k = now (c .before .before .before .before .before .before .before .args .curve) in
     let read = c .before .before .before .read-curve in
-    curve-asked k (read .result) (read .ensures) _ (c .before .read .given .1)
+    let e : Equation = c .before .read .given .0 .0 in
+    curve-asked k (read .result) (read .ensures) e (c .before .read .given .1)
 
 pass-on-requires : tie.Need-pass-on-requires
 pass-on-requires c κs =
