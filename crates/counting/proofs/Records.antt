@@ -2,7 +2,7 @@
 --   totals-none          of none
 --   sum-asked, add-asked     the next divisor may be added to the sum, and its record to the tallies
 --   totals-more          one record more
---   found-next           one stage before others
+--   pass-next            one stage before others
 use mathlib.Core.Logic.{inr}
 use mathlib.Core.List.{List, [], _∷_}
 use Prim.Native.Nat.{ℕ, _<_, _≤_}
@@ -49,6 +49,6 @@ module _ {g : Ground} {x : Divisor} {t : Tallies} where
         tallies = a rs w (z .tallies) (record-given (modulus c) (equation c) (omega (arith, accepted-limit c (o .accepted))) v);
       }
 
-pub found-next : (c : List ℕ) (s : Stage) (ss : List Stage) → s .passed → (l : List ℕ) (r : PassAnswer) → PassFound c ss l r → PassFound c (s ∷ ss) l r
-found-next c s ss p l (answer.All x t) f = ((p, f .0), f .1)
-found-next c s ss p l (answer.Refused n) f = inr (p, f)
+pub pass-next : (c : List ℕ) (s : Stage) (ss : List Stage) → s .passed → (l : List ℕ) (r : PassAnswer) → PassFound c ss l r → PassFound c (s ∷ ss) l r
+pass-next c s ss p l (answer.All x t) f = ((p, f .0), f .1)
+pass-next c s ss p l (answer.Refused n) f = inr (p, f)

@@ -1,11 +1,11 @@
 -- What the functions of the counting program require and ensure.
 --   Totals x t c rs          x is the list sum of the records rs by value, and t holds their tallies
---   PassFound c ss s r       the stages ss are passed, and r is the sum and the tallies of the records of the list s; or r is the number of the
---                            first cause
---   Printable r              a sum by value has the number of a kind, and no more records are typical than there are
---   TextOf r out n out′      the buffer out has become out′: what is printed for r stands at its start, in n bytes
---   PassPut r out n out′     put_pass: … in at most as many as are printed for any input
---   PrintedOn c s out n out′    put_report: … what is printed for the curve c and the list s
+--   PassFound c ss s p       pass, pass_on: the stages ss are passed, and p is the sum and the tallies of the records of the list s; or p is the
+--                            number of the first cause
+--   Printable p              a sum by value has the number of a kind, and no more records are typical than there are
+--   TextOf p out r out′      the buffer out has become out′: what is printed for p stands at its start, in r bytes
+--   PassPut p out r out′     put_pass: …, at most the longest report's
+--   PrintedOn c s out r out′    put_report: the same of what is printed for the curve c and the list s
 use mathlib.Core.List.{List}
 use Prim.Native.Nat.{ℕ, _≤_}
 use Rattle.text.specs.Put.{Put}

@@ -55,7 +55,7 @@ fn pass(g: Ground, list: &[u8]) -> PassAnswer
     PassAnswer::All(sum, tallies)
 }
 
-// The length of a list, and then its records.
+// The same of a list of any length: one that is too long is refused first.
 fn pass_on(g: Ground, list: &[u8]) -> PassAnswer
     requires { ⌜ Curved g ⌝ }
     ensures { λ r. ⌜ OnCurves g (λ c. PassFound c (list-of c (now (list .entry))) (now (list .entry)) r) ⌝ }
