@@ -1,5 +1,4 @@
--- From what the calls return to what is printed.
-pub mod Counts
-pub mod Answers
+-- From the records of a list to what is printed.
 pub mod Parts
-pub mod Signed
+pub mod Records
+pub mod Printed

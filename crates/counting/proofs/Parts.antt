@@ -1,6 +1,5 @@
 -- The parts of an input, and the report on them.
---   curve-same, list-same    the parts of an input by the place where the curve ends
---   parts-reported           what was put for the parts is the report on the input
+--   parts-reported   what was put for the parts is the report on the input
 use mathlib.Core.Path.{_≡_, sym, ap, _∙_, subst, subst₂}
 use mathlib.Core.List.{List}
 use Prim.Native.Nat.{ℕ, _≤_, min}
@@ -13,19 +12,19 @@ use Rattle.report.specs.Report.{curve-part, list-part, ReportOn, Report}
 use Rattle.counting.specs.Contracts.{PrintedOn}
 
 -- the parts of an input of n bytes end and start at the same place
-pub curve-same : (input : List ℕ) (size : ℕ) → size ≡ min (length input) 44 → take size input ≡ curve-part input
-curve-same input size e = go (decLe 44 (length input))
+curve-same : (input : List ℕ) (size : ℕ) → size ≡ min (length input) curve-size → take size input ≡ curve-part input
+curve-same input size e = go (decLe curve-size (length input))
   where
-    go : Dec (44 ≤ length input) → take size input ≡ take 44 input
-    go (yes h) = let whole : size ≡ 44 = omega arith in ap (λ (n : ℕ). take n input) whole
-    go (no h) = take-all size input (omega (arith, h)) ∙ sym (take-all 44 input (omega (arith, h)))
+    go : Dec (curve-size ≤ length input) → take size input ≡ take curve-size input
+    go (yes h) = let whole : size ≡ curve-size = omega arith in ap (λ (n : ℕ). take n input) whole
+    go (no h) = take-all size input (omega (arith, h)) ∙ sym (take-all curve-size input (omega (arith, h)))
 
-pub list-same : (input : List ℕ) (size : ℕ) → size ≡ min (length input) 44 → drop size input ≡ list-part input
-list-same input size e = go (decLe 44 (length input))
+list-same : (input : List ℕ) (size : ℕ) → size ≡ min (length input) curve-size → drop size input ≡ list-part input
+list-same input size e = go (decLe curve-size (length input))
   where
-    go : Dec (44 ≤ length input) → drop size input ≡ drop 44 input
-    go (yes h) = let whole : size ≡ 44 = omega arith in ap (λ (n : ℕ). drop n input) whole
-    go (no h) = drop-of-length-le input {i = size} (omega (arith, h)) ∙ sym (drop-of-length-le input {i = 44} (omega (arith, h)))
+    go : Dec (curve-size ≤ length input) → drop size input ≡ drop curve-size input
+    go (yes h) = let whole : size ≡ curve-size = omega arith in ap (λ (n : ℕ). drop n input) whole
+    go (no h) = drop-of-length-le input {i = size} (omega (arith, h)) ∙ sym (drop-of-length-le input {i = curve-size} (omega (arith, h)))
 
 -- the bytes that were put are the text
 text-put : {c s out : List ℕ} {r : ℕ} {out′ : List ℕ} → PrintedOn c s out r out′ → ReportOn c s (take r out′)

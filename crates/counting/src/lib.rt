@@ -1,84 +1,111 @@
 // The counting program: the report on an input, put into a lent buffer; crate report, specs/Report.antt, says what that is.
+use basis::Divisor;
+use ground::Ground;
 use printing::Tallies;
+use reader::CurveAnswer;
+use reader::NextAnswer;
+ghost use mathlib.Core.List.{[], _∷_};
 ghost use mathlib.Core.Path.{_≡_};
 ghost use Prim.Native.Nat.{_≤_, min};
-ghost use Rattle.calls.specs.Pool.{amount};
+ghost use Rattle.record.specs.Curve.{modulus, equation, curve-size};
+ghost use Rattle.record.specs.Listed.{list-stage, list-limit};
+ghost use Rattle.calls.specs.Call.{list-of};
+ghost use Rattle.classes.specs.Found.{Curved, OnCurves};
 ghost use Rattle.report.specs.Report.{Report};
 ghost use Rattle.report.specs.Input.{enough, ReportsRead};
-ghost use Rattle.counting.specs.Contracts.{cause-of, KindCount, ListTallies, PrintedOn};
+ghost use Rattle.printing.specs.Contracts.{longest};
+ghost use Rattle.counting.specs.Contracts.{PassFound, Printable, PassPut, PrintedOn};
 
-// The number of the refusal that a call returned; 0 for none.
-fn cause_of(r: i32) -> u32
-    requires { ⌜ cause-of r ≤ 11 ⌝ }
-    ensures { λ n. ⌜ n ≡ cause-of r ⌝ }
+// The length of a curve's record.
+const CURVE_SIZE: usize = 44;
+
+// Room for a curve and one byte more than the longest list.
+pub const INPUT_ROOM: usize = CURVE_SIZE + reader::LIST_LIMIT + 1;
+
+// The sum and the tallies of the records of a list, or the number of the first cause of refusal.
+pub enum PassAnswer {
+    All(Divisor, Tallies),
+    Refused(u8),
+}
+
+// The sum and the tallies of the records of a list, read one after another.
+fn pass(g: Ground, list: &[u8]) -> PassAnswer
+    requires { ⌜ Curved g ⌝ }
+    requires { do ⌜ (← ⟦list.len()⟧) ≤ list-limit ⌝ }
+    ensures { λ r. ⌜ OnCurves g (λ c. PassFound c (list-stage (modulus c) (equation c) (now (list .entry)) ∷ []) (now (list .entry)) r) ⌝ }
 {
-    if r < 0 {
-        return (0 - r) as u32;
+    let mut sum = group::zero_class();
+    let mut tallies = printing::no_records();
+    let mut at = 0;
+    while at < list.len() {
+        let read = reader::read_next(g, &list[at..]);
+        match read {
+            NextAnswer::Next(x, n) => {
+                let s = group::sum(g, sum, x);
+                let t = printing::add(tallies, x);
+                sum = s;
+                tallies = t;
+                at += n;
+            }
+            NextAnswer::Refused(n) => {
+                return PassAnswer::Refused(n);
+            }
+        }
     }
-    0
+    PassAnswer::All(sum, tallies)
 }
 
-// The number that a call returned; 0 for a refusal.
-fn amount(r: i32) -> u32
-    ensures { λ n. ⌜ n ≡ amount r ⌝ }
+// The same of a list of any length: one that is too long is refused first.
+fn pass_on(g: Ground, list: &[u8]) -> PassAnswer
+    requires { ⌜ Curved g ⌝ }
+    ensures { λ r. ⌜ OnCurves g (λ c. PassFound c (list-of c (now (list .entry))) (now (list .entry)) r) ⌝ }
 {
-    if r < 0 {
-        return 0;
+    if list.len() > reader::LIST_LIMIT {
+        return PassAnswer::Refused(11);
     }
-    r as u32
+    pass(g, list)
 }
 
-// How many records of an accepted list have the kind.
-fn kind_count(curve: &[u8], list: &[u8], kind: u32) -> u32
-    ensures { λ n. ⌜ KindCount (now (curve .entry)) (now (list .entry)) kind n ⌝ }
+// All that is printed for what was found of a list.
+fn put_pass(out: &mut [u8], p: PassAnswer) -> usize
+    requires { ⌜ Printable p ⌝ }
+    requires { do ⌜ longest ≤ (← ⟦out.len()⟧) ⌝ }
+    ensures { λ r. ⌜ PassPut p (now (out .entry)) r (now (out .exit)) ⌝ }
 {
-    amount(c34::c34_count(curve, list, kind))
-}
-
-// The tallies of an accepted list.
-fn list_tallies(curve: &[u8], list: &[u8]) -> Tallies
-    ensures { λ t. ⌜ ListTallies (now (curve .entry)) (now (list .entry)) t ⌝ }
-{
-    let n0 = kind_count(curve, list, 0);
-    let n11 = kind_count(curve, list, 11);
-    let n21 = kind_count(curve, list, 21);
-    let n22 = kind_count(curve, list, 22);
-    let n31 = kind_count(curve, list, 31);
-    Tallies {
-        n0: n0,
-        n11: n11,
-        n21: n21,
-        n22: n22,
-        n31: n31,
-        typical: n31,
-        total: n0 + n11 + n21 + n22 + n31,
+    match p {
+        PassAnswer::All(x, t) => {
+            let mut sum = [0u8; reader::ROOM];
+            let size = reader::write_divisor(x, &mut sum);
+            printing::put_all(out, t, &sum[..size])
+        }
+        PassAnswer::Refused(n) => printing::put_refused(out, n),
     }
 }
 
 // All that is printed for a curve and a list.
 fn put_report(out: &mut [u8], curve: &[u8], list: &[u8]) -> usize
-    requires { do ⌜ 256 ≤ (← ⟦out.len()⟧) ⌝ }
+    requires { do ⌜ longest ≤ (← ⟦out.len()⟧) ⌝ }
     ensures { λ r. ⌜ PrintedOn (now (curve .entry)) (now (list .entry)) (now (out .entry)) r (now (out .exit)) ⌝ }
 {
-    let mut sum = [0u8; 40];
-    let answer = c34::c34_list_sum(curve, list, &mut sum);
-    let n = cause_of(answer);
-    if n != 0 {
-        return printing::put_refused(out, n);
+    let read = reader::read_curve(curve);
+    match read {
+        CurveAnswer::Curve(e) => {
+            let g = ground::of(e);
+            let found = pass_on(g, list);
+            put_pass(out, found)
+        }
+        CurveAnswer::Refused(n) => printing::put_refused(out, n),
     }
-    let size = amount(answer) as usize;
-    let t = list_tallies(curve, list);
-    printing::put_all(out, t, &sum[..size])
 }
 
-// How many of n bytes are the curve: the first 44, or all, if fewer.
+// How many of n bytes are the curve: the length of its record, or all, if fewer.
 fn curve_end(n: usize) -> usize
-    ensures { λ r. ⌜ r ≡ min n 44 ⌝ }
+    ensures { λ r. ⌜ r ≡ min n curve-size ⌝ }
 {
-    if n < 44 {
+    if n < CURVE_SIZE {
         return n;
     }
-    44
+    CURVE_SIZE
 }
 
 // All that is printed for an input, put at the start of `out`; returns that part of `out`.
@@ -122,10 +149,10 @@ fn skip_rest() {
 
 // The counting program: prints the report on what standard input holds.
 pub fn run() {
-    let mut input = [0u8; 32813];
+    let mut input = [0u8; INPUT_ROOM];
     let n = io::read_full(0, &mut input);
     skip_rest();
-    let mut out = [0u8; 256];
+    let mut out = [0u8; printing::LONGEST];
     let text = report_read(&input, n, &mut out);
     io::write_all(1, text);
 }

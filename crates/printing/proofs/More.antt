@@ -1,6 +1,5 @@
 -- Tallies of one record more, and their bounds.
---   tally-most, typicals-most    no more records have a kind, or are typical, than there are
---   tallies-bounded    so each tally is at most the number of all records
+--   tallies-bounded    each tally is at most the number of all records
 --   record-given       an accepted record is that of the divisor by value that was read
 --   typical-kind       a record of a kind is typical exactly if the kind is 31
 --   tallies-more       the tallies of a list and one record more
@@ -27,11 +26,11 @@ one-most : (b : Bool) → one-if b ≤ 1
 one-most true = omega arith
 one-most false = omega arith
 
-pub tally-most : (kind : ℕ) (rs : List (List ℕ)) → tally kind rs ≤ length rs
+tally-most : (kind : ℕ) (rs : List (List ℕ)) → tally kind rs ≤ length rs
 tally-most kind [] = omega arith
 tally-most kind (r ∷ rs) = omega (arith, one-most (eqb (number2 r 2) kind), tally-most kind rs)
 
-pub typicals-most : (rs : List (List ℕ)) → typicals rs ≤ length rs
+typicals-most : (rs : List (List ℕ)) → typicals rs ≤ length rs
 typicals-most [] = omega arith
 typicals-most (r ∷ rs) = omega (arith, one-most (typical r), typicals-most rs)
 

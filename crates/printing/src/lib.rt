@@ -10,9 +10,13 @@ ghost use Rattle.text.specs.Ascii.{ascii};
 ghost use Rattle.text.specs.Decimal.{decimal};
 ghost use Rattle.text.specs.Put.{Placed};
 ghost use Rattle.layout.specs.Layout.{numbers};
+ghost use Rattle.calls.specs.Call.{room};
 ghost use Rattle.report.specs.Report.{rounded, per-cent, share-line, count-line, count-lines, spaced, sum-line, refused-line};
 ghost use Rattle.printing.specs.Tallied.{TalliesOf, Bounded, OneIf, TypicalTest, AddedTo};
-ghost use Rattle.printing.specs.Contracts.{AllPut};
+ghost use Rattle.printing.specs.Contracts.{longest, AllPut};
+
+// The most bytes that are printed.
+pub const LONGEST: usize = 256;
 
 // How many records of a list have each of the five kinds, how many are typical, and how many there are.
 pub struct Tallies {
@@ -92,11 +96,11 @@ fn put_line(out: &mut [u8], at: usize, name: &[u8], n: u32) -> usize
 }
 
 // The line of a refusal, at the start.
-pub fn put_refused(out: &mut [u8], n: u32) -> usize
+pub fn put_refused(out: &mut [u8], n: u8) -> usize
     requires { do ⌜ 19 ≤ (← ⟦out.len()⟧) ⌝ }
     ensures { λ r. ⌜ Placed (now (out .entry)) 0 (refused-line n) 19 r (now (out .exit)) ⌝ }
 {
-    put_line(out, 0, b"refused ", n)
+    put_line(out, 0, b"refused ", n as u32)
 }
 
 // The lines of the five kinds.
@@ -175,7 +179,7 @@ fn put_numbers(out: &mut [u8], at: usize, w: &[u8], count: usize) -> usize
 // The line of the sum, whose record is w.
 fn put_sum(out: &mut [u8], at: usize, w: &[u8]) -> usize
     requires { do ⌜ 4 ≤ (← ⟦w.len()⟧) ⌝ }
-    requires { do ⌜ (← ⟦w.len()⟧) ≤ 40 ⌝ }
+    requires { do ⌜ (← ⟦w.len()⟧) ≤ room ⌝ }
     requires { do ⌜ at + 114 ≤ (← ⟦out.len()⟧) ⌝ }
     ensures { λ r. ⌜ Placed (now (out .entry)) at (sum-line (now (w .entry))) 114 r (now (out .exit)) ⌝ }
 {
@@ -190,9 +194,9 @@ fn put_sum(out: &mut [u8], at: usize, w: &[u8]) -> usize
 // All lines: of the kinds, of the share and of the sum, whose record is w.
 pub fn put_all(out: &mut [u8], t: Tallies, w: &[u8]) -> usize
     requires { ⌜ t .typical ≤ t .total ⌝ }
-    requires { do ⌜ 256 ≤ (← ⟦out.len()⟧) ⌝ }
+    requires { do ⌜ longest ≤ (← ⟦out.len()⟧) ⌝ }
     requires { do ⌜ 4 ≤ (← ⟦w.len()⟧) ⌝ }
-    requires { do ⌜ (← ⟦w.len()⟧) ≤ 40 ⌝ }
+    requires { do ⌜ (← ⟦w.len()⟧) ≤ room ⌝ }
     ensures { λ r. ⌜ AllPut t (now (w .entry)) (now (out .entry)) r (now (out .exit)) ⌝ }
 {
     let after_counts = put_counts(out, 0, t);

@@ -3,7 +3,7 @@ ghost use Prim.Native.Nat.{_≤_};
 
 // Prints the report on an input.
 fn print(input: &[u8]) {
-    let mut out = [0u8; 256];
+    let mut out = [0u8; printing::LONGEST];
     let text = counting::report(input, &mut out);
     io::write_all(1, text);
 }
@@ -21,9 +21,9 @@ fn show(size: u8, kind: u8, p: u8, c0: u8, list: &[u8])
     print(&input[0..end]);
 }
 
-// A list of 32,769 bytes.
+// A list of one byte more than the longest.
 fn long_list() {
-    let mut input = [0u8; 32813];
+    let mut input = [0u8; counting::INPUT_ROOM];
     input[0] = 44;
     input[2] = 34;
     input[4] = 5;

@@ -1,24 +1,44 @@
--- `counting::put_report` meets its contract: the list sum refuses or gives a record.
-use mathlib.Core.Path.{refl}
-use native.Mathlib.Omega.{arith}
-use lib.ListN.{take}
-use Rattle.report.specs.Report.{refused-line, lines, refused, counted}
-use Rattle.printing.proofs.More.{tallies-bounded}
-use Rattle.counting.proofs.Answers.{sum-cause, sum-refused, sum-given}
+-- `counting::put_report` meets its contract: what is printed for the records once the curve is accepted, or the line of the curve's refusal.
+use denote.Ref.{now}
+use Rattle.triple.specs.declared.equation.Equation.{Equation}
+use Rattle.calls.specs.Call.{list-of}
+use Rattle.answer.proofs.Curve.{curve-passes, curve-asked, curve-on, curve-cause}
+use Rattle.counting.proofs.Printed.{printable, printed-found, printed-cause}
 use borrow.Author.Needs.{needs}
 use Rattle.counting.proofs.put_report.Statement.{statement}
 use Rattle.counting.proofs.put_report.Tie as tie
 
-slice-aggregate-c34-list-sum : tie.Need-slice-aggregate-c34-list-sum
-slice-aggregate-c34-list-sum c = search needs
+read-curve-requires : tie.Need-read-curve-requires
+read-curve-requires c κs = search needs
 
-c34-list-sum-requires : tie.Need-c34-list-sum-requires
-c34-list-sum-requires c κs = search needs
+enum-known-read : tie.Need-enum-known-read
+enum-known-read c = search needs
 
-cause-of-requires : tie.Need-cause-of-requires
-cause-of-requires c κs =
-    let call = c .before .c34-list-sum in
-    sum-cause (omega arith) (call .ensures) (record { sfits = call .ok })
+of-requires : tie.Need-of-requires
+of-requires c κs =
+    let k = now (c .before .before .before .before .before .before .before .args .curve) in
+    let read = c .before .before .before .read-curve in
+    let e : Equation = c .before .read .given .0 .0 in
+    curve-asked k (read .result) (read .ensures) e (c .before .read .given .1)
+
+pass-on-requires : tie.Need-pass-on-requires
+pass-on-requires c κs =
+    let k = now (c .before .before .before .before .before .before .before .before .args .curve) in
+    let read = c .before .before .before .before .read-curve in
+    (k, curve-on k (read .result) (read .ensures) _ (c .before .before .read .given .1) _ (c .of .ensures))
+
+put-pass-requires : tie.Need-put-pass-requires
+put-pass-requires c κs =
+    let start = c .before .before .before .before .before .before .before .before .before .before in
+    let k = now (start .args .curve) in
+    let s = now (start .args .list) in
+    let read = c .before .before .before .before .before .before .read-curve in
+    let o = curve-on k (read .result) (read .ensures) _ (c .before .before .before .before .read .given .1) _ (c .before .before .of .ensures) in
+    let found = c .before .pass-on in
+    (printable k (list-of k s) s (found .result) (found .ensures k o), start .pre)
+
+enum-known-read-2 : tie.Need-enum-known-read-2
+enum-known-read-2 c = search needs
 
 put-refused-requires : tie.Need-put-refused-requires
 put-refused-requires c κs = search needs
@@ -28,84 +48,41 @@ same-length c = search needs
 
 returns : tie.Need-returns
 returns c =
-    let put = c .before .before .put-refused in
-    let cause = c .before .before .before .before .before .cause-of in
-    let call = c .before .before .before .before .before .before .before .c34-list-sum in
-    record {
-      text = refused-line (cause .result);
-      report = refused (cause .result) (sum-refused (omega arith) (call .ensures) (record { sfits = call .ok }) (cause .ensures) (c .before .before .before .before .if1 .taken)) refl;
-      put = put .ensures .put;
-      short = omega (arith, put .ensures .within);
-    }
-
-amount-requires : tie.Need-amount-requires
-amount-requires c κs = search needs
-
-cast-size : tie.Need-cast-size
-cast-size c = search needs
-
-list-tallies-requires : tie.Need-list-tallies-requires
-list-tallies-requires c κs = search needs
-
-array-share-prefix-sum : tie.Need-array-share-prefix-sum
-array-share-prefix-sum c =
-    let size = c .before .before .amount in
-    let cause = c .before .before .before .before .cause-of in
-    let call = c .before .before .before .before .before .before .c34-list-sum in
-    let g = sum-given (omega arith) (call .ensures) (record { sfits = call .ok }) (cause .ensures) (c .before .before .before .if1 .left) (size .ensures) in
-    g .inside
-
-slice-aggregate-put-all : tie.Need-slice-aggregate-put-all
-slice-aggregate-put-all c =
-    let size = c .before .before .before .amount in
-    let cause = c .before .before .before .before .before .cause-of in
-    let call = c .before .before .before .before .before .before .before .c34-list-sum in
-    let g = sum-given (omega arith) (call .ensures) (record { sfits = call .ok }) (cause .ensures) (c .before .before .before .before .if1 .left) (size .ensures) in
-    g .full
-
-put-all-requires : tie.Need-put-all-requires
-put-all-requires c κs =
-    let size = c .before .before .before .amount in
-    let cause = c .before .before .before .before .before .cause-of in
-    let call = c .before .before .before .before .before .before .before .c34-list-sum in
-    let g = sum-given (omega arith) (call .ensures) (record { sfits = call .ok }) (cause .ensures) (c .before .before .before .before .if1 .left) (size .ensures) in
-    let held = c .before .before .list-tallies .ensures (g .passes) (g .records) (g .listed) in
-    (tallies-bounded held .most-typical, (omega arith, (omega (arith, g .least, g .full), omega (arith, g .most, g .full))))
+    let found = c .before .before .before .before in
+    let of = found .before in
+    let accepted = of .before .before in
+    let read = accepted .before .before .read-curve in
+    let start = accepted .before .before .before .before .before .before in
+    let k = now (start .args .curve) in
+    let is = accepted .read .given .1 in
+    let o = curve-on k (read .result) (read .ensures) _ is _ (of .of .ensures) in
+    printed-found k (now (start .args .list)) (found .pass-on .result) (curve-passes k (read .result) (read .ensures) _ is)
+    (found .pass-on .ensures k o) (c .before .before .put-pass .ensures)
 
 same-length-2 : tie.Need-same-length-2
 same-length-2 c = search needs
 
 returns-2 : tie.Need-returns-2
 returns-2 c =
-    let size = c .before .before .before .before .before .before .amount in
-    let cause = c .before .before .before .before .before .before .before .before .cause-of in
-    let call = c .before .before .before .before .before .before .before .before .before .before .c34-list-sum in
-    let g = sum-given (omega arith) (call .ensures) (record { sfits = call .ok }) (cause .ensures) (c .before .before .before .before .before .before .before .if1 .left) (size .ensures) in
-    let held = c .before .before .before .before .before .list-tallies .ensures (g .passes) (g .records) (g .listed) in
-    let put = c .before .before .put-all .ensures in
-    let sum = take (size .result) (call .last .1 .1 .0) in
-    record {
-      text = lines (g .records) sum;
-      report = counted (g .records) sum (g .passes) (g .listed) (g .sum) refl;
-      put = put .put (g .records) held;
-      short = put .short;
-    }
+    let refused = c .before .before .before .before .before in
+    let read = refused .before .before .read-curve in
+    let start = refused .before .before .before .before .before .before in
+    let k = now (start .args .curve) in
+    printed-cause k (now (start .args .list)) (curve-cause k (read .result) (read .ensures) _ (refused .read2 .given .1))
+    (c .before .before .put-refused .ensures)
 
 pub put-report-spec : {M : Type 1} → statement M
 put-report-spec =
     tie.close
     (tie.spec
-    slice-aggregate-c34-list-sum
-    c34-list-sum-requires
-    cause-of-requires
+    read-curve-requires
+    enum-known-read
+    of-requires
+    pass-on-requires
+    put-pass-requires
+    enum-known-read-2
     put-refused-requires
     same-length
     returns
-    amount-requires
-    cast-size
-    list-tallies-requires
-    array-share-prefix-sum
-    slice-aggregate-put-all
-    put-all-requires
     same-length-2
     returns-2)
