@@ -1,44 +1,27 @@
 -- The numbers of a candidate as the code computes them.
---   opposite-one, opposite-turn        −v over the lead 1, and over the lead −a0
 --   term-y-none, term-y-some           the number before y, if d1 is not d + 1 and if it is
 --   term-x-none, term-x-some           the number before x, if d2 is not d + 2 and if it is
 --   term-one-is                        the constant
-use mathlib.Core.Path.{_≡_, refl, sym, _∙_, ap, ap₂}
+use mathlib.Core.Path.{_≡_, refl, _∙_, ap, ap₂}
 use mathlib.Core.List.{List}
-use Prim.Native.Nat.{ℕ, _+_, _-_, _%_, _<_, _≤_}
+use Prim.Native.Nat.{ℕ, _+_, _-_, _%_, _<_}
 use native.Mathlib.Omega.{arith}
-use Rattle.algebra.proofs.Laws as L
 use Rattle.field.specs.Residue.{Z, el}
 use Rattle.field.specs.Contract.{Is}
 use Rattle.ideal.specs.Poles.{largest-gap}
 use Rattle.curve.specs.Curve.{Curve, Coordinate}
 use Rattle.curve.specs.Monomial.{mono}
 use Rattle.curve.specs.Sequence.{twist}
-use Rattle.curve.proofs.Lead.{twist-one, twist-turn}
 use Rattle.vector.specs.Contract.{RowsOf}
 use Rattle.ground.specs.Ground.{Unit-of}
-use Rattle.star.specs.declared.Pose.{Pose}
+use Rattle.lambda.specs.declared.Pose.{Pose}
+use Rattle.lambda.specs.Lambda.{Λ, ValueAt, Opposite, OppositeOf}
+use Rattle.lambda.proofs.Pairing.{value-at-none}
 use Rattle.star.specs.declared.Values.{Values}
-use Rattle.star.specs.Lambda.{Λ, ValueAt, Opposite, OppositeOf}
 use Rattle.star.specs.Parts.{ValuesOf, TermY, TermX, TermOne}
-use Rattle.star.proofs.Pairing.{value-at-none}
 
 module _ {q : Pose} where
   open Pose q using (p, unit, d, d1, d2)
-
-  pub opposite-one : {m v r : ℕ} → m < 3 → Is p r (Z p .neg (el p v)) → OppositeOf q m v r
-  opposite-one {m} {v} {r} h i = record { below = i .below; is = go }
-    where
-      go : (C : Curve (Z p)) (a b : ℕ) → Unit-of p unit C → a % 3 + b % 3 ≡ m → Opposite q (twist C a b) (el p v) r
-      go C a b u e =
-          (Z p .one, ap (Z p .mul (Z p .one)) (twist-one C a b (omega arith)) ∙ Z p .mul-one _, i .is ∙ ap (Z p .neg) (sym (L.one-mul (Z p) _)))
-
-  pub opposite-turn : {m v w r : ℕ} → 3 ≤ m → Is p w (Z p .mul (el p unit) (el p v)) → Is p r (Z p .neg (el p w)) → OppositeOf q m v r
-  opposite-turn {m} {v} {w} {r} h j i = record { below = i .below; is = go }
-    where
-      go : (C : Curve (Z p)) (a b : ℕ) → Unit-of p unit C → a % 3 + b % 3 ≡ m → Opposite q (twist C a b) (el p v) r
-      go C a b u e =
-          (el p unit, ap (Z p .mul (el p unit)) (twist-turn C a b (omega arith)) ∙ u .inverse, i .is ∙ ap (Z p .neg) (j .is))
 
   module _ {lam : List ℕ} {us : List (List ℕ)} {n : ℕ} where
     pub term-y-none : 0 < p → ¬ (d1 ≡ d + 1) → TermY q lam us n 0

@@ -5,7 +5,7 @@
 use mathlib.Core.Path.{_≡_, refl, sym, _∙_, ap, subst}
 use mathlib.Core.List.{List, [], _∷_}
 use mathlib.Core.Logic.{⊎-elim}
-use Prim.Native.Nat.{ℕ, zero, suc, _+_, _%_, _<_, _≤_}
+use Prim.Native.Nat.{ℕ, zero, suc, _+_, _%_, _<_}
 use native.Mathlib.Omega.{arith}
 use lib.ListN.{replicate}
 use Rattle.algebra.specs.Ring.{CommRing, Field}
@@ -33,12 +33,12 @@ use Rattle.functional.proofs.Candidate.{Scene, Solves, meets-one, meets-x, meet
 use Rattle.triple.specs.Setting.{poles-of}
 use Rattle.triple.specs.Triple.{Spanned}
 use Rattle.ground.specs.declared.Ground.{Ground}
-use Rattle.basis.specs.Divisor.{divisor-0, numbers, residues, Shaped}
+use Rattle.basis.specs.Divisor.{divisor-0, numbers, residues}
 use Rattle.basis.specs.declared.Divisor.{Divisor}
-use Rattle.star.specs.declared.Pose.{Pose}
+use Rattle.lambda.specs.declared.Pose.{Pose}
+use Rattle.lambda.specs.Lambda.{FunctionalAsked, FunctionalOf}
 use Rattle.star.specs.declared.Terms.{Terms}
 use Rattle.star.specs.Contract.{StarAsked, Starred, LeastOf}
-use Rattle.star.specs.Lambda.{FunctionalAsked, FunctionalOf}
 use Rattle.star.specs.Parts.{Posed, Solved, divisor-11, divisor-21, divisor-22, divisor-31}
 use Rattle.star.specs.Parts.{ByKind, is-31, is-21, is-22, is-11}
 use Rattle.star.proofs.Asked.{S, in-span, member-monic, member-pole, degrees-of, steps-of, least-element, least-small, near-1, near-2, least-low}

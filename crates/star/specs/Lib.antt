@@ -1,4 +1,3 @@
 -- The star of a triple: what star and its parts require and ensure.
-pub mod Lambda
 pub mod Parts
 pub mod Contract

@@ -22,10 +22,10 @@ use Rattle.vector.specs.Contract.{Rows, RowsOf}
 use Rattle.ground.specs.Ground.{Unit-of}
 use Rattle.basis.specs.Divisor.{of-four}
 use Rattle.basis.specs.declared.Divisor.{Divisor}
-use Rattle.star.specs.declared.Pose.{Pose}
+use Rattle.lambda.specs.declared.Pose.{Pose}
+use Rattle.lambda.specs.Lambda.{Λ, Lambda, ValueAt, Opposite}
 use Rattle.star.specs.declared.Terms.{Terms}
 use Rattle.star.specs.declared.Values.{Values}
-use Rattle.star.specs.Lambda.{Λ, Lambda, ValueAt, Opposite}
 
 abbrev pub LowMonomial : ℕ → Type 0
 LowMonomial n = (n ≤ 8) × (4 * (n % 3) ≤ n)

@@ -1,24 +1,15 @@
-// The star of a triple J: the divisor of J* = (f : J), f the least member. J* is read off the functional Λ that is 0 below
-// d + 5, 1 at d + 5 and 0 at every multiple of f, d the degree of f. Of the other two members u has the degree d + 1 or
-// d + 4, and w the degree d + 2, d + 5 or d + 8.
+// The star of a triple J: the divisor of J* = (f : J), f the least member. J* is read off the functional Λ of f (crate lambda),
+// which is 0 below d + 5 and 1 at d + 5, d the degree of f. Of the other two members u has the degree d + 1 or d + 4, and w the
+// degree d + 2, d + 5 or d + 8.
 ghost use Prim.Native.Nat.{_+_};
 ghost use Rattle.vector.specs.Vector.{row};
 ghost use Rattle.vector.specs.Contract.{YMultiples};
 ghost use Rattle.star.specs.Contract.{StarAsked, StarOf, LeastOf, MultiplesAsked, FromAsked};
-ghost use Rattle.star.specs.Lambda.{ValueAsked, Valued, ValueAtAsked, ValueAt, OppositeAsked, OppositeOf, FunctionalAsked, FunctionalOf};
 ghost use Rattle.star.specs.Parts.{PosedW, ValuesOf, TermYAsked, TermY, TermXAsked, TermX, TermOneAsked, TermOne, SolveAsked, Solved};
 ghost use Rattle.star.specs.Parts.{Posed, ByKind};
 use basis::Divisor;
 use ground::Ground;
-
-// What the functions below share: the modulus, the inverse of −a0, and the degrees of f, u and w.
-struct Pose {
-    p: u32,
-    unit: u32,
-    d: usize,
-    d1: usize,
-    d2: usize,
-}
+use lambda::Pose;
 
 // a4·y + a3·x + a0
 struct Terms {
@@ -34,65 +25,15 @@ struct Values {
     v3: u32,
 }
 
-// Λ(x^(s/3)·v), for lam that is 0 below c: the products lam[n]·v[n − s] are 0 below c and s, and from `to` on.
-fn value(p: u32, lam: &[u32; 26], c: usize, v: &[u32; 26], s: usize, to: usize) -> u32
-    requires { ⌜ ValueAsked p (now lam) c (now v) s to ⌝ }
-    ensures { λ r. ⌜ Valued p (now (lam .entry)) (now (v .entry)) s r ⌝ }
-{
-    if c < s {
-        return vector::dot(p, lam, v, s, s, to);
-    }
-    vector::dot(p, lam, v, s, c, to)
-}
-
-// Λ(mono n·x^(h/3)·g) from the y-multiples of g, of degree e.
-fn value_at(q: Pose, lam: &[u32; 26], ys: &[[u32; 26]; 3], e: usize, n: usize, h: usize) -> u32
-    requires { ⌜ ValueAtAsked q (now lam) (now ys) e n h ⌝ }
-    ensures { λ r. ⌜ ValueAt q (now (lam .entry)) (now (ys .entry)) n h r ⌝ }
-{
-    let j = n % 3;
-    value(q.p, lam, q.d + 5, &ys[j], n - 4 * j + h, n + h + e + 1)
-}
-
-// −v over the lead of a product of two monic elements, whose classes modulo 3 add up to m: that lead is 1, or −a0 where a y³
-// comes up.
-fn opposite(q: Pose, m: usize, v: u32) -> u32
-    requires { ⌜ OppositeAsked q v ⌝ }
-    ensures { λ r. ⌜ OppositeOf q m v r ⌝ }
-{
-    if m < 3 {
-        return field::neg(q.p, v);
-    }
-    let w = field::mul(q.p, q.unit, v);
-    field::neg(q.p, w)
-}
-
-// The functional of a monic f from f's y-multiples: lam[d + s] makes it zero at mono s·f.
-fn functional(q: Pose, ys: &[[u32; 26]; 3]) -> [u32; 26]
-    requires { ⌜ FunctionalAsked q (now ys) ⌝ }
-    ensures { λ r. ⌜ FunctionalOf q (now (ys .entry)) r ⌝ }
-{
-    let mut lam = [0u32; 26];
-    lam[q.d + 5] = 1;
-    let mut s = 6;
-    while s < 14 {
-        let j = s % 3;
-        let v = value(q.p, &lam, q.d + 5, &ys[j], s - 4 * j, q.d + s);
-        lam[q.d + s] = opposite(q, j + q.d % 3, v);
-        s += 1;
-    }
-    lam
-}
-
 // Λ at y·w, y·v and x·v.
 fn values_of(q: Pose, lam: &[u32; 26], ws: &[[u32; 26]; 3]) -> Values
     requires { ⌜ PosedW q (now lam) (now ws) ⌝ }
     ensures { λ r. ⌜ ValuesOf q (now (lam .entry)) (now (ws .entry)) r ⌝ }
 {
     let h = q.d + 5 - q.d2;
-    let w4 = value_at(q, lam, ws, q.d2, 4, 0);
-    let v4 = value_at(q, lam, ws, q.d2, 4, h);
-    let v3 = value_at(q, lam, ws, q.d2, 3, h);
+    let w4 = lambda::value_at(q, lam, ws, q.d2, 4, 0);
+    let v4 = lambda::value_at(q, lam, ws, q.d2, 4, h);
+    let v3 = lambda::value_at(q, lam, ws, q.d2, 3, h);
     Values { w4, v4, v3 }
 }
 
@@ -104,8 +45,8 @@ fn term_y(q: Pose, lam: &[u32; 26], us: &[[u32; 26]; 3], n: usize) -> u32
     if q.d1 != q.d + 1 {
         return 0;
     }
-    let a = value_at(q, lam, us, q.d1, n, 0);
-    opposite(q, 1 + q.d1 % 3, a)
+    let a = lambda::value_at(q, lam, us, q.d1, n, 0);
+    lambda::opposite(q, 1 + q.d1 % 3, a)
 }
 
 // The number before x, which makes Λ zero at the product with w.
@@ -116,7 +57,7 @@ fn term_x(q: Pose, lam: &[u32; 26], ws: &[[u32; 26]; 3], v: Values, n: usize, a4
     if q.d2 != q.d + 2 {
         return 0;
     }
-    let a = value_at(q, lam, ws, q.d2, n, 0);
+    let a = lambda::value_at(q, lam, ws, q.d2, n, 0);
     let b = field::mul_add(q.p, a4, v.w4, a);
     field::neg(q.p, b)
 }
@@ -135,7 +76,7 @@ fn term_one(
     ensures { λ r. ⌜ TermOne q (now (lam .entry)) (now (ws .entry)) n a4 a3 r ⌝ }
 {
     let h = q.d + 5 - q.d2;
-    let a = value_at(q, lam, ws, q.d2, n, h);
+    let a = lambda::value_at(q, lam, ws, q.d2, n, h);
     let b = field::mul_add(q.p, a4, v.v4, a);
     let e = field::mul_add(q.p, a3, v.v3, b);
     field::neg(q.p, e)
@@ -244,7 +185,7 @@ fn star_from(g: Ground, t: &[[u32; 26]; 3], d: &[usize; 3], j: usize) -> Divisor
         d1: e1,
         d2: e2,
     };
-    let lam = functional(q, &ys);
+    let lam = lambda::functional(q, &ys);
     by_kind(q, &lam, &us, &ws)
 }
 

@@ -17,8 +17,8 @@ use Rattle.curve.specs.Monomial.{power, mono}
 use Rattle.vector.specs.Vector.{row, x-to}
 use Rattle.vector.specs.Contract.{pairing, RowsOf}
 use Rattle.functional.proofs.Pairing.{apply-pairing, shifted-mono}
-use Rattle.star.specs.declared.Pose.{Pose}
-use Rattle.star.specs.Lambda.{Λ, ValueAsked, Valued, ValueAtAsked, ValueAt}
+use Rattle.lambda.specs.declared.Pose.{Pose}
+use Rattle.lambda.specs.Lambda.{Λ, ValueAsked, Valued, ValueAtAsked, ValueAt}
 
 module _ {p c s to r : ℕ} {lam v : List ℕ} (A : ValueAsked p lam c v s to) where
   pub valued-shifted : Is p r (pairing p lam v s s to) → Valued p lam v s r

@@ -18,7 +18,7 @@ use Rattle.vector.specs.Vector.{Vec, at, res, element, x-to, width}
 use Rattle.vector.specs.Contract.{Rows, RowsOf}
 use Rattle.functional.specs.Functional.{apply, Functional}
 use Rattle.ground.specs.Ground.{Unit-of}
-use Rattle.star.specs.declared.Pose.{Pose}
+use Rattle.lambda.specs.declared.Pose.{Pose}
 
 abbrev pub Λ : (p : ℕ) (C : Curve (Z p)) → List ℕ → Coordinate C .Car → Z p .Car
 Λ p C lam g = apply C width (res p lam) g

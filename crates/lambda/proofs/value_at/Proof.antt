@@ -1,8 +1,8 @@
--- `star::value_at` meets its contract.
+-- `lambda::value_at` meets its contract.
 use borrow.Author.Needs.{needs}
-use Rattle.star.proofs.Pairing.{value-asked, value-at}
-use Rattle.star.proofs.value_at.Statement.{statement}
-use Rattle.star.proofs.value_at.Tie as tie
+use Rattle.lambda.proofs.Pairing.{value-asked, value-at}
+use Rattle.lambda.proofs.value_at.Statement.{statement}
+use Rattle.lambda.proofs.value_at.Tie as tie
 
 add-value : tie.Need-add-value
 add-value c = search needs

@@ -1,9 +1,9 @@
--- `star::value` meets its contract.
+-- `lambda::value` meets its contract.
 use native.Mathlib.Omega.{arith}
 use borrow.Author.Needs.{needs}
-use Rattle.star.proofs.Pairing.{valued-shifted, valued-plain}
-use Rattle.star.proofs.value.Statement.{statement}
-use Rattle.star.proofs.value.Tie as tie
+use Rattle.lambda.proofs.Pairing.{valued-shifted, valued-plain}
+use Rattle.lambda.proofs.value.Statement.{statement}
+use Rattle.lambda.proofs.value.Tie as tie
 
 dot-requires : tie.Need-dot-requires
 dot-requires c κs = search needs

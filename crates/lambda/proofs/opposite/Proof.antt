@@ -1,9 +1,9 @@
--- `star::opposite` meets its contract.
+-- `lambda::opposite` meets its contract.
 use native.Mathlib.Omega.{arith}
 use borrow.Author.Needs.{needs}
-use Rattle.star.proofs.Numbers.{opposite-one, opposite-turn}
-use Rattle.star.proofs.opposite.Statement.{statement}
-use Rattle.star.proofs.opposite.Tie as tie
+use Rattle.lambda.proofs.Leads.{opposite-one, opposite-turn}
+use Rattle.lambda.proofs.opposite.Statement.{statement}
+use Rattle.lambda.proofs.opposite.Tie as tie
 
 neg-requires : tie.Need-neg-requires
 neg-requires c κs = search needs

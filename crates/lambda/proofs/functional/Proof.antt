@@ -1,9 +1,9 @@
--- `star::functional` meets its contract. The loop's invariant is Partial of proofs/Lambda, its measure 14 − s.
+-- `lambda::functional` meets its contract. The loop's invariant is Partial of proofs/Partial, its measure 14 − s.
 use Prim.Native.Nat.{_≤_, _-_}
 use native.Mathlib.Omega.{arith}
-use Rattle.star.proofs.Lambda.{Partial, partial-start, partial-asked, partial-more, partial-done}
-use Rattle.star.proofs.functional.Statement.{statement}
-use Rattle.star.proofs.functional.Tie as tie
+use Rattle.lambda.proofs.Partial.{Partial, partial-start, partial-asked, partial-more, partial-done}
+use Rattle.lambda.proofs.functional.Statement.{statement}
+use Rattle.lambda.proofs.functional.Tie as tie
 
 abbrev Inv-loop : tie.InvT-loop
 Inv-loop q ys lam₀ s₀ lam s = Partial q ys s lam × (6 ≤ s) × (s ≤ 14)

@@ -24,8 +24,8 @@ use Rattle.vector.proofs.Product.{zeros-vec}
 use Rattle.vector.proofs.Element.{element-coefficient}
 use Rattle.ground.specs.Ground.{Unit-of}
 use Rattle.functional.proofs.Build.{Begun, begun-start, begun-next, begun-done}
-use Rattle.star.specs.declared.Pose.{Pose}
-use Rattle.star.specs.Lambda.{Λ, Lambda, ValueAsked, Valued, Opposite, OppositeOf, FunctionalAsked, FunctionalOf}
+use Rattle.lambda.specs.declared.Pose.{Pose}
+use Rattle.lambda.specs.Lambda.{Λ, Lambda, ValueAsked, Valued, Opposite, OppositeOf, FunctionalAsked, FunctionalOf}
 
 module _ (q : Pose) (ys : List (List ℕ)) where
   open Pose q using (p, unit, d)

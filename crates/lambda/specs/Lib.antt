@@ -1,0 +1,2 @@
+-- The functional Λ by its values: what the functions on it require and ensure.
+pub mod Lambda
