@@ -8,5 +8,3 @@ pub mod Reduction
 pub mod Products
 pub mod Ideals
 pub mod Filling
-pub mod Vectors
-pub mod Singular

@@ -3,8 +3,6 @@
 ghost use mathlib.Core.Path.{_≡_};
 ghost use Rattle.triple.specs.Contract.{InsertAsked, Inserted, TurnAsked, Turned, ReduceAsked, Rest, ClosedAsked, ClosedTest, AtAsked, AtTest, ProductAsked, Multiplied, PutAsked, Put, AllAsked, AllInserted, WholeTest};
 
-pub mod equation;
-
 // v, which is below top, is put into the triple; v is used up.
 pub fn insert(p: u32, t: &mut [[u32; 26]; 3], d: &mut [usize; 3], v: &mut [u32; 26], top: usize)
     requires { ⌜ InsertAsked p (now t) (now d) (now v) top ⌝ }

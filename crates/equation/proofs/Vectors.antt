@@ -31,8 +31,8 @@ use Rattle.nonsingular.proofs.Derivative.{coefficient-derivative-x, coefficient
 use Rattle.vector.specs.Vector.{Vec, Top, at, res, element}
 use Rattle.vector.proofs.Loop.{zeros-at}
 use Rattle.vector.proofs.Element.{element-at, element-coefficient}
-use Rattle.triple.specs.declared.equation.Equation.{Equation}
-use Rattle.triple.specs.Equation.{curve-of, Coefficients, IsCube, DerivativeX, DerivativeY}
+use Rattle.equation.specs.declared.Equation.{Equation}
+use Rattle.equation.specs.Equation.{curve-of, Coefficients, IsCube, DerivativeX, DerivativeY}
 
 abbrev pub Match : (p : ℕ) → List ℕ → List (Z p .Car) → Type 0
 Match p [] [] = Unit

@@ -1,8 +1,8 @@
--- `triple::equation::cube` meets its contract, by `cube-of` of proofs/Vectors.
+-- `equation::cube` meets its contract, by `cube-of` of proofs/Vectors.
 use borrow.Author.Needs.{needs}
-use Rattle.triple.proofs.Vectors.{cube-of}
-use Rattle.triple.proofs.equation.cube.Statement.{statement}
-use Rattle.triple.proofs.equation.cube.Tie as tie
+use Rattle.equation.proofs.Vectors.{cube-of}
+use Rattle.equation.proofs.cube.Statement.{statement}
+use Rattle.equation.proofs.cube.Tie as tie
 
 neg-requires : tie.Need-neg-requires
 neg-requires c κs = search needs

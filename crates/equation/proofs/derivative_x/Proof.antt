@@ -1,8 +1,8 @@
--- `triple::equation::derivative_x` meets its contract, by `derivative-x-of` of proofs/Vectors.
+-- `equation::derivative_x` meets its contract, by `derivative-x-of` of proofs/Vectors.
 use borrow.Author.Needs.{needs}
-use Rattle.triple.proofs.Vectors.{derivative-x-of}
-use Rattle.triple.proofs.equation.derivative_x.Statement.{statement}
-use Rattle.triple.proofs.equation.derivative_x.Tie as tie
+use Rattle.equation.proofs.Vectors.{derivative-x-of}
+use Rattle.equation.proofs.derivative_x.Statement.{statement}
+use Rattle.equation.proofs.derivative_x.Tie as tie
 
 twice-requires : tie.Need-twice-requires
 twice-requires c κs = search needs

@@ -26,16 +26,16 @@ use Rattle.nonsingular.specs.Derivative.{derivative-x, derivative-y}
 use Rattle.nonsingular.proofs.Nonsingular.{nonsingular}
 use Rattle.vector.specs.Vector.{element, y-to}
 use Rattle.vector.specs.Contract.{RowsOf, YMultiples}
 use Rattle.triple.specs.Setting as setting
 use Rattle.triple.specs.Setting.{Setting, poles-of}
 use Rattle.triple.specs.Triple.{Triple, elements, Spanned}
 use Rattle.triple.specs.Contract.{AllAsked, AllInserted, WholeTest}
-use Rattle.triple.specs.declared.equation.Equation.{Equation}
-use Rattle.triple.specs.Equation.{curve-of, DerivativeX, DerivativeY, TestAsked, NonsingularTest}
+use Rattle.equation.specs.declared.Equation.{Equation}
+use Rattle.equation.specs.Equation.{curve-of, DerivativeX, DerivativeY, TestAsked, NonsingularTest}
 use Rattle.triple.proofs.Element.{y-is}
 use Rattle.triple.proofs.Members.{each-row, row-each}
 use Rattle.triple.proofs.Leads.{whole-all, all-whole}
 use Rattle.triple.proofs.Products.{no-rows, no-degrees, empty-triple, empty-same}
 
 module _ {p : ℕ} (S : Setting p) where
   open CommRing (setting.ring S) using (Car, zero as 𝟘, one as 𝟙, add as _⊕_, mul as _⊗_)

@@ -1,8 +1,8 @@
--- `triple::equation::nonsingular` meets its contract, by `test` of proofs/Singular.
+-- `equation::nonsingular` meets its contract, by `test` of proofs/Singular.
 use borrow.Author.Needs.{needs}
-use Rattle.triple.proofs.Singular.{start-asked, test}
-use Rattle.triple.proofs.equation.nonsingular.Statement.{statement}
-use Rattle.triple.proofs.equation.nonsingular.Tie as tie
+use Rattle.equation.proofs.Singular.{start-asked, test}
+use Rattle.equation.proofs.nonsingular.Statement.{statement}
+use Rattle.equation.proofs.nonsingular.Tie as tie
 
 derivative-y-requires : tie.Need-derivative-y-requires
 derivative-y-requires c κs = search needs

@@ -2,8 +2,8 @@
 ghost use Rattle.algebra.specs.Ring.{CommRing};
 ghost use Rattle.field.specs.Residue.{el, Z};
 ghost use Rattle.field.specs.Contract.{Below₁, Is};
-ghost use Rattle.nonsingular.specs.Derivative.{twice as double, thrice as triple};
-ghost use Rattle.triple.specs.Equation.{Coefficients, IsCube, DerivativeAsked, DerivativeX, DerivativeY, TestAsked, NonsingularTest};
+ghost use Rattle.nonsingular.specs.Derivative.{twice as double, thrice as treble};
+ghost use Rattle.equation.specs.Equation.{Coefficients, IsCube, DerivativeAsked, DerivativeX, DerivativeY, TestAsked, NonsingularTest};
 
 // y³ + a0·x⁴ + c8·xy² + c7·x²y + c6·x³ + c5·y² + c4·xy + c3·x² + c2·y + c1·x + c0 modulo p
 pub struct Equation {
@@ -76,11 +76,11 @@ pub fn nonsingular(e: Equation, f: &[u32; 26]) -> bool
     let mut d = [26usize; 3];
     let v = derivative_y(e);
     let ys = vector::y_multiples(p, f, &v, 9);
-    crate::insert_all(p, &mut t, &mut d, &ys, 9);
+    triple::insert_all(p, &mut t, &mut d, &ys, 9);
     let w = derivative_x(e);
     let zs = vector::y_multiples(p, f, &w, 10);
-    crate::insert_all(p, &mut t, &mut d, &zs, 10);
-    crate::whole(&d)
+    triple::insert_all(p, &mut t, &mut d, &zs, 10);
+    triple::whole(&d)
 }
 
 // The derivative by x: c1 + 2c3·x + 3c6·x² + 4a0·x³ + (c4 + 2c7·x)·y + c8·y²
@@ -173,7 +173,7 @@ fn twice(p: u32, a: u32) -> u32
 // 3a
 fn thrice(p: u32, a: u32) -> u32
     requires { ⌜ Below₁ p a ⌝ }
-    ensures { λ r. ⌜ Is p r (triple (Z p) (el p a)) ⌝ }
+    ensures { λ r. ⌜ Is p r (treble (Z p) (el p a)) ⌝ }
 {
     field::add(p, twice(p, a), a)
 }

@@ -1,8 +1,8 @@
--- `triple::equation::thrice` meets its contract, by `thrice-of` of proofs/Vectors.
+-- `equation::thrice` meets its contract, by `thrice-of` of proofs/Vectors.
 use borrow.Author.Needs.{needs}
-use Rattle.triple.proofs.Vectors.{thrice-of}
-use Rattle.triple.proofs.equation.thrice.Statement.{statement}
-use Rattle.triple.proofs.equation.thrice.Tie as tie
+use Rattle.equation.proofs.Vectors.{thrice-of}
+use Rattle.equation.proofs.thrice.Statement.{statement}
+use Rattle.equation.proofs.thrice.Tie as tie
 
 twice-requires : tie.Need-twice-requires
 twice-requires c κs = search needs

@@ -17,7 +17,7 @@ use Rattle.nonsingular.specs.Nonsingular.{Nonsingular}
 use Rattle.nonsingular.specs.Derivative.{derivative-x, derivative-y}
 use Rattle.vector.specs.Vector.{Vec, Top, element}
 use Rattle.vector.specs.Contract.{Cube}
-use Rattle.triple.specs.declared.equation.Equation.{Equation}
+use Rattle.equation.specs.declared.Equation.{Equation}
 
 abbrev pub curve-of : (e : Equation) → Curve (Z (e .p))
 curve-of e =

@@ -1,8 +1,8 @@
--- `triple::equation::derivative_y` meets its contract, by `derivative-y-of` of proofs/Vectors.
+-- `equation::derivative_y` meets its contract, by `derivative-y-of` of proofs/Vectors.
 use borrow.Author.Needs.{needs}
-use Rattle.triple.proofs.Vectors.{derivative-y-of}
-use Rattle.triple.proofs.equation.derivative_y.Statement.{statement}
-use Rattle.triple.proofs.equation.derivative_y.Tie as tie
+use Rattle.equation.proofs.Vectors.{derivative-y-of}
+use Rattle.equation.proofs.derivative_y.Statement.{statement}
+use Rattle.equation.proofs.derivative_y.Tie as tie
 
 twice-requires : tie.Need-twice-requires
 twice-requires c κs = search needs
