@@ -25,7 +25,7 @@ use Rattle.curve.specs.Monomial.{power}
 use Rattle.nonsingular.specs.Derivative.{derivative-x, derivative-y}
 use Rattle.nonsingular.proofs.Nonsingular.{nonsingular}
 use Rattle.vector.specs.Vector.{element, y-to}
-use Rattle.vector.specs.Contract.{RowsOf, YMultiples}
+use Rattle.multiplication.specs.Contract.{RowsOf, YMultiples}
 use Rattle.triple.specs.Setting as setting
 use Rattle.triple.specs.Setting.{Setting, poles-of}
 use Rattle.triple.specs.Triple.{Triple, elements, Spanned}

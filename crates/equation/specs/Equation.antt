@@ -16,7 +16,7 @@ use Rattle.curve.specs.Curve.{Curve}
 use Rattle.nonsingular.specs.Nonsingular.{Nonsingular}
 use Rattle.nonsingular.specs.Derivative.{derivative-x, derivative-y}
 use Rattle.vector.specs.Vector.{Vec, Top, element}
-use Rattle.vector.specs.Contract.{Cube}
+use Rattle.multiplication.specs.Contract.{Cube}
 use Rattle.equation.specs.declared.Equation.{Equation}
 
 abbrev pub curve-of : (e : Equation) → Curve (Z (e .p))

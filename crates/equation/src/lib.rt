@@ -75,10 +75,10 @@ pub fn nonsingular(e: Equation, f: &[u32; 26]) -> bool
     let mut t = [[0u32; 26]; 3];
     let mut d = [26usize; 3];
     let v = derivative_y(e);
-    let ys = vector::y_multiples(p, f, &v, 9);
+    let ys = multiplication::y_multiples(p, f, &v, 9);
     triple::insert_all(p, &mut t, &mut d, &ys, 9);
     let w = derivative_x(e);
-    let zs = vector::y_multiples(p, f, &w, 10);
+    let zs = multiplication::y_multiples(p, f, &w, 10);
     triple::insert_all(p, &mut t, &mut d, &zs, 10);
     triple::whole(&d)
 }

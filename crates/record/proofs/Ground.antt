@@ -7,7 +7,7 @@ use mathlib.Core.List.{List}
 use Prim.Native.Nat.{ℕ, _<_}
 use Rattle.field.specs.Residue.{Z}
 use Rattle.curve.specs.Curve.{Curve}
-use Rattle.vector.specs.Contract.{Cube}
+use Rattle.multiplication.specs.Contract.{Cube}
 use Rattle.equation.specs.Equation.{Coefficients}
 use Rattle.equation.specs.declared.Equation.{Equation}
 use Rattle.ground.specs.declared.Ground.{Ground}

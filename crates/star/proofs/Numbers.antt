@@ -15,7 +15,7 @@ use Rattle.curve.specs.Curve.{Curve, Coordinate}
 use Rattle.curve.specs.Monomial.{mono}
 use Rattle.curve.specs.Sequence.{twist}
 use Rattle.curve.proofs.Lead.{twist-one, twist-turn}
-use Rattle.vector.specs.Contract.{RowsOf}
+use Rattle.multiplication.specs.Contract.{RowsOf}
 use Rattle.ground.specs.Ground.{Unit-of}
 use Rattle.star.specs.declared.Pose.{Pose}
 use Rattle.star.specs.declared.Values.{Values}

@@ -2,7 +2,8 @@
 --   listed-each, listed-at, listed-rest    what holds of each element of a list, by number
 --   span-cons              one element more on both sides
 --   listed-same            … and several
---   empty-triple, empty-same       the triple of zeros and its span
+--   no-rows, no-degrees, no-row    the triple without members
+--   empty-triple, empty-same       it is a triple, and its span
 --   Putting                insert_products' invariant: i members of the first triple have been put in
 --   put-start, times-asked, put-asked, put-more, put-end
 --   Multiplying            product's invariant: all products with the first j members of the second triple have been put in
@@ -25,8 +26,8 @@ use Rattle.ideal.proofs.Generated.{products, products-source}
 use Rattle.ideal.proofs.Same.{same-sym, same-trans}
 use Rattle.ideal.proofs.Span.{Span, span-each, span-first, span-product, span-rest, span-same}
 use Rattle.vector.specs.Vector.{Vec, at, row, element, width}
-use Rattle.vector.specs.Contract.{RowsOf, YMultiplesAsked, YMultiples, TimesAsked, Times}
-use Rattle.vector.proofs.Loop.{zeros-at}
+use Rattle.multiplication.specs.Contract.{RowsOf, YMultiplesAsked, YMultiples, TimesAsked, Times}
+use Rattle.vector.proofs.Loop.{zeros-at, zeros-vec}
 use Rattle.triple.specs.Setting.{Setting, ring, poles-of, Ready}
 use Rattle.triple.specs.Triple.{Member, Triple, elements, Spanned}
 use Rattle.triple.specs.Contract.{InsertAsked, Inserted, ProductAsked, Multiplied, PutAsked, Put, listed}
@@ -70,9 +71,6 @@ no-rows = replicate 3 (replicate 26 0)
 abbrev pub no-degrees : List ℕ
 no-degrees = replicate 3 26
 
-pub zeros-vec : {p : ℕ} → 0 < p → Vec p (replicate 26 0)
-zeros-vec {p} h = record { len = refl; below = λ n. subst (λ a. a < p) (sym (zeros-at 26 n)) h; gap-1 = refl; gap-2 = refl; gap-5 = refl }
-
 pub no-row : (j : ℕ) → j < 3 → (row no-rows j ≡ replicate 26 0) × (at no-degrees j ≡ width)
 no-row zero l = (refl, refl)
 no-row (suc zero) l = (refl, refl)
@@ -83,7 +81,7 @@ pub empty-triple : {p : ℕ} → 0 < p → Triple p no-rows no-degrees
 empty-triple {p} h = record { len-t = refl; len-d = refl; member = member }
   where
     absent : (v : List ℕ) (e : ℕ) → v ≡ replicate 26 0 → e ≡ width → (j : ℕ) → Member p v j e
-    absent v e q r j = record { vec = subst (Vec p) (sym q) (zeros-vec h); shape = inr (record { none = r; nought = λ i l. ap (λ u. at u i) q ∙ zeros-at 26 i }) }
+    absent v e q r j = record { vec = subst (Vec p) (sym q) (zeros-vec p h); shape = inr (record { none = r; nought = λ i l. ap (λ u. at u i) q ∙ zeros-at 26 i }) }
 
     member : (j : ℕ) → j < 3 → Member p (row no-rows j) j (at no-degrees j)
     member j l = absent (row no-rows j) (at no-degrees j) (no-row j l .0) (no-row j l .1) j
@@ -92,7 +90,7 @@ pub empty-same : {p : ℕ} → 0 < p → (S : Setting p) → SameIdeal (ring S) 
 empty-same {p} h S = span-same (poles-of S) (elements S no-rows) [] (each-row S (Span (poles-of S) []) no-rows none) tt
   where
     none : (j : ℕ) → j < 3 → element p (S .curve) (row no-rows j) ≡ ring S .zero
-    none j l = ap (element p (S .curve)) (no-row j l .0) ∙ element-zero S (zeros-vec h) (λ i k. zeros-at 26 i)
+    none j l = ap (element p (S .curve)) (no-row j l .0) ∙ element-zero S (zeros-vec p h) (λ i k. zeros-at 26 i)
 
 -- the products of i members of the first triple have been put in
 pub record Putting (p : ℕ) (t₁ ys t t′ : List (List ℕ)) (d′ : List ℕ) (i : ℕ) : Type 0 where

@@ -22,7 +22,8 @@ use Rattle.curve.specs.Curve.{Curve, Coordinate, y}
 use Rattle.curve.specs.Sequence.{coefficient}
 use Rattle.curve.proofs.Term.{coefficient-zero, coefficient-add, coefficient-constant-mul}
 use Rattle.vector.specs.Vector.{Vec, Top, at, res, row, element, x-to, scalar, width}
-use Rattle.vector.specs.Contract.{ClearAsked, Cleared, TimesYAsked, TimesY, ZeroTest}
+use Rattle.vector.specs.Contract.{ClearAsked, Cleared, ZeroTest}
+use Rattle.multiplication.specs.Contract.{TimesYAsked, TimesY}
 use Rattle.vector.proofs.Monomial.{shift-high}
 use Rattle.vector.proofs.Element.{element-coefficient}
 use Rattle.triple.specs.Setting.{Setting, ring, poles-of, Ready}

@@ -20,7 +20,7 @@ use Rattle.curve.specs.Curve.{y}
 use Rattle.curve.specs.Sequence.{coefficient}
 use Rattle.field.specs.Residue.{Z}
 use Rattle.vector.specs.Vector.{Vec, Top, at, row, width, element}
-use Rattle.vector.specs.Contract.{Rows, RowsOf}
+use Rattle.multiplication.specs.Contract.{Rows, RowsOf}
 use Rattle.triple.specs.Setting.{Setting, ring, poles-of, Ready}
 use Rattle.triple.specs.Triple.{Triple, Full, elements, Spanned}
 

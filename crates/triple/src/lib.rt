@@ -78,7 +78,7 @@ fn closed_at(p: u32, f: &[u32; 26], t: &[[u32; 26]; 3], d: &[usize; 3], j: usize
     ensures { λ r. ⌜ AtTest p (now (f .entry)) (now (t .entry)) (now (d .entry)) j r ⌝ }
 {
     let e = d[j];
-    let mut v = vector::times_y(p, f, &t[j], e + 1);
+    let mut v = multiplication::times_y(p, f, &t[j], e + 1);
     reduce(p, t, d, &mut v, e + 5);
     vector::is_zero(&v)
 }
@@ -103,7 +103,7 @@ pub fn product(
     let mut j = 0;
     while j < 3 {
         let e = d2[j];
-        let ys = vector::y_multiples(p, f, &t2[j], e + 1);
+        let ys = multiplication::y_multiples(p, f, &t2[j], e + 1);
         insert_products(p, t1, d1, &ys, e + 1, t, d);
         j += 1;
     }
@@ -125,7 +125,7 @@ fn insert_products(
     let mut i = 0;
     while i < 3 {
         let e = d1[i];
-        let mut v = vector::times(p, &t1[i], e + 1, ys, top);
+        let mut v = multiplication::times(p, &t1[i], e + 1, ys, top);
         insert(p, t, d, &mut v, e + top);
         i += 1;
     }

@@ -1,9 +1,9 @@
--- `vector::times_y` meets its contract. The loop's invariant is YPart of proofs/ByY, its measure top − n.
+-- `multiplication::times_y` meets its contract. The loop's invariant is YPart of proofs/ByY, its measure top − n.
 use Prim.Native.Nat.{_-_}
 use native.Mathlib.Omega.{arith}
-use Rattle.vector.proofs.ByY.{YPart, y-start, y-asked, y-more, y-end}
-use Rattle.vector.proofs.times_y.Statement.{statement}
-use Rattle.vector.proofs.times_y.Tie as tie
+use Rattle.multiplication.proofs.ByY.{YPart, y-start, y-asked, y-more, y-end}
+use Rattle.multiplication.proofs.times_y.Statement.{statement}
+use Rattle.multiplication.proofs.times_y.Tie as tie
 
 abbrev Inv-loop : tie.InvT-loop
 Inv-loop p f v top out₀ n₀ out n = YPart p f v top n out

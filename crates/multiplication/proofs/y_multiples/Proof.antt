@@ -1,8 +1,8 @@
--- `vector::y_multiples` meets its contract, by `y-rows` of proofs/Powers.
+-- `multiplication::y_multiples` meets its contract, by `y-rows` of proofs/Powers.
 use borrow.Author.Needs.{needs}
-use Rattle.vector.proofs.Powers.{y-rows}
-use Rattle.vector.proofs.y_multiples.Statement.{statement}
-use Rattle.vector.proofs.y_multiples.Tie as tie
+use Rattle.multiplication.proofs.Powers.{y-rows}
+use Rattle.multiplication.proofs.y_multiples.Statement.{statement}
+use Rattle.multiplication.proofs.y_multiples.Tie as tie
 
 times-y-requires : tie.Need-times-y-requires
 times-y-requires c κs = search needs

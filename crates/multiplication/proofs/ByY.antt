@@ -21,11 +21,12 @@ use Rattle.curve.specs.Curve as K
 use Rattle.curve.proofs.Coefficient.{at-ext}
 use Rattle.curve.specs.Pole.{pole}
 use Rattle.curve.specs.Monomial.{power}
 use Rattle.vector.specs.Vector.{Vec, Top, at, res, element, x-to, y-to, scalar}
-use Rattle.vector.specs.Contract.{Added, AxpyAsked, Shifted, Cube, TimesYAsked, TimesY}
+use Rattle.vector.specs.Contract.{Added, AxpyAsked}
+use Rattle.multiplication.specs.Contract.{Shifted, Cube, TimesYAsked, TimesY}
 use Rattle.curve.proofs.Monomial.{at-y-0-straight, at-y-1-straight, at-y-2-straight}
 use Rattle.vector.proofs.Element.{element-at, added-value}
-use Rattle.vector.proofs.Portion.{portion, portion-in, portion-out, portion-all, portion-step}
+use Rattle.multiplication.proofs.Portion.{portion, portion-in, portion-out, portion-all, portion-step}
 
 abbrev pub Reached : ℕ → ℕ → Type 0
 Reached n m = (m % 3 < 2) ⊎ (m < n)

@@ -18,12 +18,13 @@ use Rattle.field.specs.Residue.{Z}
 use Rattle.curve.specs.Curve.{Curve, Coordinate}
 use Rattle.curve.specs.Pole.{pole}
 use Rattle.curve.specs.Table.{y-at, x-at}
 use Rattle.vector.specs.Vector.{Vec, Top, at, row, element, x-to, y-to, scalar}
-use Rattle.vector.specs.Contract.{Added, AxpyAsked, RowsOf, TimesAsked, Times}
-use Rattle.vector.proofs.Loop.{zeros-at}
-use Rattle.vector.proofs.Entry.{entry-class, entry-gap}
+use Rattle.vector.specs.Contract.{Added, AxpyAsked}
+use Rattle.multiplication.specs.Contract.{RowsOf, TimesAsked, Times}
+use Rattle.vector.proofs.Loop.{zeros-at, zeros-vec}
+use Rattle.multiplication.proofs.Entry.{entry-class, entry-gap}
 use Rattle.vector.proofs.Element.{element-zero, added-value}
-use Rattle.vector.proofs.Portion.{portion, portion-all, portion-none, portion-same, portion-step}
+use Rattle.multiplication.proofs.Portion.{portion, portion-all, portion-none, portion-same, portion-step}
 
 abbrev pub First : ℕ → ℕ → Type 0
 First n m = m < n
@@ -35,10 +36,6 @@ pub record TimesPart (p : ℕ) (b : List ℕ) (n : ℕ) (ys : List (List ℕ)) (
   pub vec : Vec p r
   pub top-out : Top r (n + top - 1)
   pub value : (C : Curve (Z p)) (g : Coordinate C .Car) → RowsOf p C ys g → element p C r ≡ Coordinate C .mul (portion p C b (First n) (first n)) g
-
-pub zeros-vec : (p : ℕ) → 0 < p → Vec p (replicate 26 0)
-zeros-vec p h =
-    record { len = refl; below = λ n. subst (λ a. a < p) (sym (zeros-at 26 n)) h; gap-1 = zeros-at 26 1; gap-2 = zeros-at 26 2; gap-5 = zeros-at 26 5 }
 
 pub part-start : {p e top : ℕ} {b : List ℕ} {ys : List (List ℕ)} → TimesAsked p b e ys top → TimesPart p b 0 ys top (replicate 26 0)
 part-start {p} {e} {top} {b} {ys} h =

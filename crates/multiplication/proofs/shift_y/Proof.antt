@@ -1,14 +1,14 @@
--- `vector::shift_y` meets its contract. The loop's invariant: what it ensures holds for the places below n; its measure: top − n. What it
+-- `multiplication::shift_y` meets its contract. The loop's invariant: what it ensures holds for the places below n; its measure: top − n. What it
 -- reads off the table is y-at (n + 4) by computation.
 use mathlib.Core.Logic.{⊎-elim}
 use Prim.Native.Nat.{_≤_, _-_}
 use native.Mathlib.Omega.{arith}
 use borrow.Author.Needs.{needs}
-use Rattle.vector.proofs.Entry.{entry-moved, entry-dropped}
-use Rattle.vector.proofs.Loop.{shifted-start, shifted-more, shifted-skip, shifted-as, shifted-end}
-use Rattle.vector.specs.Contract.{Shifted}
-use Rattle.vector.proofs.shift_y.Statement.{statement}
-use Rattle.vector.proofs.shift_y.Tie as tie
+use Rattle.multiplication.proofs.Entry.{entry-moved, entry-dropped}
+use Rattle.multiplication.proofs.Shift.{shifted-start, shifted-more, shifted-skip, shifted-as, shifted-end}
+use Rattle.multiplication.specs.Contract.{Shifted}
+use Rattle.multiplication.proofs.shift_y.Statement.{statement}
+use Rattle.multiplication.proofs.shift_y.Tie as tie
 
 abbrev Inv-loop : tie.InvT-loop
 Inv-loop v top powers out₀ n₀ out n = Shifted v n out × (n ≤ top)

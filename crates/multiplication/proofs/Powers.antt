@@ -10,8 +10,8 @@ use Rattle.algebra.proofs.Norm.{unit}
 use Rattle.field.specs.Residue.{Z}
 use Rattle.curve.specs.Curve.{Curve, Coordinate, y}
 use Rattle.curve.specs.Monomial.{power}
 use Rattle.vector.specs.Vector.{Vec, Top, row, element, y-to}
-use Rattle.vector.specs.Contract.{Cube, TimesY, YMultiplesAsked, YMultiples}
+use Rattle.multiplication.specs.Contract.{Cube, TimesY, YMultiplesAsked, YMultiples}
 
 once : (R : CommRing) (y g : R .Car) → R .mul y g ≡ R .mul (R .mul y (R .one)) g
 once R = solve R 2 (λ y g. y ⊠ g) (λ y g. y ⊠ unit ⊠ g) tt
