@@ -35,7 +35,7 @@ use Rattle.equation.specs.Equation.{curve-of, DerivativeX, DerivativeY, 
 use Rattle.triple.proofs.Element.{y-is}
 use Rattle.triple.proofs.Members.{each-row, row-each}
 use Rattle.triple.proofs.Leads.{whole-all, all-whole}
-use Rattle.triple.proofs.Products.{no-rows, no-degrees, empty-triple, empty-same}
+use Rattle.triple.proofs.Empty.{no-rows, no-degrees, empty-triple, empty-same}
 
 module _ {p : ℕ} (S : Setting p) where
   open CommRing (setting.ring S) using (Car, zero as 𝟘, one as 𝟙, add as _⊕_, mul as _⊗_)

@@ -19,11 +19,11 @@ use Rattle.ideal.proofs.Same.{same-trans}
 use Rattle.ideal.proofs.Span.{Span, span-each, span-same, span-within}
 use Rattle.vector.specs.Vector.{at, row, element}
 use Rattle.triple.specs.Setting.{Setting, ring, poles-of}
-use Rattle.triple.specs.Triple.{Triple, elements, Spanned}
-use Rattle.triple.specs.Contract.{InsertAsked, Inserted, AllAsked, AllInserted, Whole, WholeTest, listed}
+use Rattle.triple.specs.Triple.{Triple, elements, Spanned, listed}
+use Rattle.triple.specs.Contract.{InsertAsked, Inserted, AllAsked, AllInserted, Whole, WholeTest}
 use Rattle.triple.proofs.Members.{each-row, row-each}
 use Rattle.triple.proofs.Leads.{whole-all}
-use Rattle.triple.proofs.Products.{listed-each, listed-at, listed-rest, span-cons}
+use Rattle.triple.proofs.Listed.{listed-each, listed-at, listed-rest, span-cons}
 
 pub whole-no : (d : List ℕ) → (Whole d → ⊥) → WholeTest d false
 whole-no d n = record { yes-whole = λ e. let z : _≡_ {A = ℕ} 0 1 = cc in absurd (omega arith); no-whole = λ e. n }

@@ -1,9 +1,9 @@
--- `triple::closed_at` meets its contract, by `at-test` of proofs/Reduction.
+-- `span::closed_at` meets its contract, by `at-test` of proofs/Reduction.
 use native.Mathlib.Omega.{arith}
 use borrow.Author.Needs.{needs}
-use Rattle.triple.proofs.Reduction.{at-times-asked, at-reduce-asked, at-test}
-use Rattle.triple.proofs.closed_at.Statement.{statement}
-use Rattle.triple.proofs.closed_at.Tie as tie
+use Rattle.span.proofs.Reduction.{at-times-asked, at-reduce-asked, at-test}
+use Rattle.span.proofs.closed_at.Statement.{statement}
+use Rattle.span.proofs.closed_at.Tie as tie
 
 mul-e : tie.Need-mul-e
 mul-e c = search needs

@@ -1,21 +1,15 @@
--- The loops of product and insert_all: the span of the triple is that of the elements put in so far.
---   listed-each, listed-at, listed-rest    what holds of each element of a list, by number
---   span-cons              one element more on both sides
---   listed-same            … and several
---   no-rows, no-degrees, no-row    the triple without members
---   empty-triple, empty-same       it is a triple, and its span
+-- The loops of product and insert_products: the span of the triple is that of the elements put in so far.
 --   Putting                insert_products' invariant: i members of the first triple have been put in
 --   put-start, times-asked, put-asked, put-more, put-end
 --   Multiplying            product's invariant: all products with the first j members of the second triple have been put in
 --   multiply-start, multiply-asked, multiply-more, multiply-end
 use mathlib.Core.Path.{_≡_, refl, sym, _∙_, ap, subst}
-use mathlib.Core.Logic.{inr}
 use mathlib.Core.List.{List, [], _∷_, map}
 use Prim.Native.Nat.{ℕ, zero, suc, _+_, _<_, _≤_}
 use native.Mathlib.Omega.{arith}
 use native.Mathlib.Decide.{ℕ-discrete}
 use native.Mathlib.Numerals.{add-one}
-use lib.ListN.{length, replicate}
+use lib.ListN.{length}
 use Rattle.algebra.specs.Ring.{CommRing}
 use Rattle.prime.specs.Prime.{Prime}
 use Rattle.ideal.specs.Ideal.{SameIdeal, Product}
@@ -27,70 +21,20 @@ use Rattle.ideal.proofs.Same.{same-sym, same-trans}
 use Rattle.ideal.proofs.Span.{Span, span-each, span-first, span-product, span-rest, span-same}
 use Rattle.vector.specs.Vector.{Vec, at, row, element, width}
 use Rattle.multiplication.specs.Contract.{RowsOf, YMultiplesAsked, YMultiples, TimesAsked, Times}
-use Rattle.vector.proofs.Loop.{zeros-at, zeros-vec}
 use Rattle.triple.specs.Setting.{Setting, ring, poles-of, Ready}
-use Rattle.triple.specs.Triple.{Member, Triple, elements, Spanned}
-use Rattle.triple.specs.Contract.{InsertAsked, Inserted, ProductAsked, Multiplied, PutAsked, Put, listed}
-use Rattle.triple.proofs.Element.{element-zero, present-monic}
+use Rattle.triple.specs.Triple.{Triple, elements, Spanned, listed}
+use Rattle.triple.specs.Contract.{InsertAsked, Inserted}
+use Rattle.triple.proofs.Element.{present-monic}
 use Rattle.triple.proofs.Members.{each-row, row-each}
 use Rattle.triple.proofs.Leads.{full-of, spanned-lead}
-
-module _ {A : Type 0} (Q : A → Type 0) (f : ℕ → A) where
-  pub listed-each : (n : ℕ) (bs : List A) → ((i : ℕ) → i < n → Q (f i)) → Every Q bs → Every Q (listed f n bs)
-  listed-each zero bs g q = q
-  listed-each (suc n) bs g q = (g n (omega arith), listed-each n bs (λ i l. g i (omega arith)) q)
-
-  pub listed-at : (n : ℕ) (bs : List A) → Every Q (listed f n bs) → (i : ℕ) → i < n → Q (f i)
-  listed-at zero bs q i l = absurd (omega arith)
-  listed-at (suc n) bs (q, qs) i l = go (listed-at n bs qs i) (ℕ-discrete i n)
-    where
-      go : (i < n → Q (f i)) → Dec (i ≡ n) → Q (f i)
-      go r (yes e) = subst (λ i. Q (f i)) (sym e) q
-      go r (no e) = r (omega arith)
-
-  pub listed-rest : (n : ℕ) (bs : List A) → Every Q (listed f n bs) → Every Q bs
-  listed-rest zero bs q = q
-  listed-rest (suc n) bs (q, qs) = listed-rest n bs qs
+use Rattle.triple.proofs.Listed.{listed-each, listed-at, listed-rest, span-cons, listed-same}
+use Rattle.triple.proofs.Empty.{no-rows, no-degrees, empty-triple, empty-same}
+use Rattle.span.specs.Contract.{ProductAsked, Multiplied, PutAsked, Put}
 
 module _ {R : CommRing} (P : Poles R) where
-  pub span-cons : (bs cs : List (R .Car)) (u : R .Car) → SameIdeal R (Span P bs) (Span P cs) → SameIdeal R (Span P (u ∷ bs)) (Span P (u ∷ cs))
-  span-cons bs cs u e = span-same P (u ∷ bs) (u ∷ cs) (span-first P u cs, every-map (λ b m. span-rest P u cs b (e b .0 m)) bs (span-each P bs)) (span-first P u bs, every-map (λ c m. span-rest P u bs c (e c .1 m)) cs (span-each P cs))
-
-  pub listed-same : (f : ℕ → R .Car) (n : ℕ) (bs cs : List (R .Car)) → SameIdeal R (Span P bs) (Span P cs) → SameIdeal R (Span P (listed f n bs)) (Span P (listed f n cs))
-  listed-same f zero bs cs e = e
-  listed-same f (suc n) bs cs e = span-cons (listed f n bs) (listed f n cs) (f n) (listed-same f n bs cs e)
-
   pub every-products : (Q : R .Car → Type 0) (gs hs : List (R .Car)) → Every (λ g. Every (λ h. Q (R .mul g h)) hs) gs → Every Q (products R gs hs)
   every-products Q [] hs _ = tt
   every-products Q (g ∷ gs) hs (m, ms) = every-append Q (map (λ h. R .mul g h) hs) (products R gs hs) (every-image Q (λ h. R .mul g h) hs m) (every-products Q gs hs ms)
-
--- the triple without members
-abbrev pub no-rows : List (List ℕ)
-no-rows = replicate 3 (replicate 26 0)
-
-abbrev pub no-degrees : List ℕ
-no-degrees = replicate 3 26
-
-pub no-row : (j : ℕ) → j < 3 → (row no-rows j ≡ replicate 26 0) × (at no-degrees j ≡ width)
-no-row zero l = (refl, refl)
-no-row (suc zero) l = (refl, refl)
-no-row (suc (suc zero)) l = (refl, refl)
-no-row (suc (suc (suc j))) l = absurd (omega arith)
-
-pub empty-triple : {p : ℕ} → 0 < p → Triple p no-rows no-degrees
-empty-triple {p} h = record { len-t = refl; len-d = refl; member = member }
-  where
-    absent : (v : List ℕ) (e : ℕ) → v ≡ replicate 26 0 → e ≡ width → (j : ℕ) → Member p v j e
-    absent v e q r j = record { vec = subst (Vec p) (sym q) (zeros-vec p h); shape = inr (record { none = r; nought = λ i l. ap (λ u. at u i) q ∙ zeros-at 26 i }) }
-
-    member : (j : ℕ) → j < 3 → Member p (row no-rows j) j (at no-degrees j)
-    member j l = absent (row no-rows j) (at no-degrees j) (no-row j l .0) (no-row j l .1) j
-
-pub empty-same : {p : ℕ} → 0 < p → (S : Setting p) → SameIdeal (ring S) (Spanned S no-rows) (Span (poles-of S) [])
-empty-same {p} h S = span-same (poles-of S) (elements S no-rows) [] (each-row S (Span (poles-of S) []) no-rows none) tt
-  where
-    none : (j : ℕ) → j < 3 → element p (S .curve) (row no-rows j) ≡ ring S .zero
-    none j l = ap (element p (S .curve)) (no-row j l .0) ∙ element-zero S (zeros-vec p h) (λ i k. zeros-at 26 i)
 
 -- the products of i members of the first triple have been put in
 pub record Putting (p : ℕ) (t₁ ys t t′ : List (List ℕ)) (d′ : List ℕ) (i : ℕ) : Type 0 where

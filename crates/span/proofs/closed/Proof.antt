@@ -1,9 +1,9 @@
--- `triple::closed` meets its contract. The loop's invariant is Closing of proofs/Reduction, its measure 3 − j.
+-- `span::closed` meets its contract. The loop's invariant is Closing of proofs/Reduction, its measure 3 − j.
 use Prim.Native.Nat.{_-_}
 use native.Mathlib.Omega.{arith}
-use Rattle.triple.proofs.Reduction.{Closing, closed-start, closed-more, closed-stop, closed-end}
-use Rattle.triple.proofs.closed.Statement.{statement}
-use Rattle.triple.proofs.closed.Tie as tie
+use Rattle.span.proofs.Reduction.{Closing, closed-start, closed-more, closed-stop, closed-end}
+use Rattle.span.proofs.closed.Statement.{statement}
+use Rattle.span.proofs.closed.Tie as tie
 
 abbrev Inv-loop : tie.InvT-loop
 Inv-loop p f t d j₀ j = Closing p f t d j

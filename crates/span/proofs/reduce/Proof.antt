@@ -1,8 +1,8 @@
--- `triple::reduce` meets its contract. The loop's invariant is Reducing of proofs/Reduction, its measure n.
+-- `span::reduce` meets its contract. The loop's invariant is Reducing of proofs/Reduction, its measure n.
 use native.Mathlib.Omega.{arith}
-use Rattle.triple.proofs.Reduction.{Reducing, reduce-start, reduce-asked, reduce-clear, reduce-skip, reduce-end}
-use Rattle.triple.proofs.reduce.Statement.{statement}
-use Rattle.triple.proofs.reduce.Tie as tie
+use Rattle.span.proofs.Reduction.{Reducing, reduce-start, reduce-asked, reduce-clear, reduce-skip, reduce-end}
+use Rattle.span.proofs.reduce.Statement.{statement}
+use Rattle.span.proofs.reduce.Tie as tie
 
 abbrev Inv-loop : tie.InvT-loop
 Inv-loop p t d v₀ top n₀ v n = Reducing p t d v₀ v n

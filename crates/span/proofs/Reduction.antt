@@ -26,12 +26,12 @@ use Rattle.vector.specs.Contract.{ClearAsked, Cleared, ZeroTest}
 use Rattle.multiplication.specs.Contract.{TimesYAsked, TimesY}
 use Rattle.vector.proofs.Monomial.{shift-high}
 use Rattle.vector.proofs.Element.{element-coefficient}
 use Rattle.triple.specs.Setting.{Setting, ring, poles-of, Ready}
 use Rattle.triple.specs.Triple.{Present, Triple, elements, Spanned}
-use Rattle.triple.specs.Contract.{ReduceAsked, Rest, Open, ClosedAsked, AtAsked, AtTest, ClosedTest}
+use Rattle.span.specs.Contract.{ReduceAsked, Rest, Open, ClosedAsked, AtAsked, AtTest, ClosedTest}
 use Rattle.triple.proofs.Element.{constant-in, x-to-in, element-zero}
 use Rattle.triple.proofs.Members.{spanned-row}
 use Rattle.triple.proofs.Leads.{present-of}
 
 -- the coefficients can be compared over any curve
 some-curve : (p : ℕ) → Curve (Z p)
