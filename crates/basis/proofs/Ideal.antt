@@ -23,7 +23,7 @@ use Rattle.divisor.proofs.Basis as B
 use Rattle.vector.specs.Vector.{at, row, element}
 use Rattle.triple.specs.Setting.{Setting, ring, poles-of, Ready}
 use Rattle.triple.specs.Triple.{Spanned}
-use Rattle.triple.specs.Contract.{Open}
+use Rattle.span.specs.Contract.{Open}
 use Rattle.basis.specs.declared.Divisor.{Divisor}
 use Rattle.basis.specs.Divisor.{residues, Based}
 use Rattle.basis.specs.Contract.{three-degrees, Tripled}

@@ -23,7 +23,7 @@ use Rattle.divisor.proofs.Members.{member, members}
 use Rattle.divisor.proofs.Monomials.{mono-one, mono-x, mono-y, mono-xx, mono-xy, mono-yy}
 use Rattle.vector.specs.Vector.{Vec, at, row, element, scalar}
 use Rattle.triple.specs.Triple.{Present, Full}
-use Rattle.triple.specs.Contract.{Small}
+use Rattle.span.specs.Contract.{Small}
 use Rattle.basis.specs.declared.Divisor.{Divisor}
 use Rattle.basis.specs.Divisor.{numbers, residues, Shaped}
 use Rattle.basis.specs.Contract.{coefficients, vectors, three-degrees, Tripled}

@@ -27,7 +27,7 @@ use Rattle.divisor.proofs.Monomials.{mono-one, mono-x, mono-y, mono-xy}
 use Rattle.vector.specs.Vector.{Vec, Top, at, res, width, element, scalar}
 use Rattle.vector.proofs.Loop.{set-cases, vec-set, zeros-at}
 use Rattle.vector.proofs.Element.{element-coefficient, element-zero}
-use Rattle.vector.proofs.Product.{zeros-vec}
+use Rattle.vector.proofs.Loop.{zeros-vec}
 use Rattle.triple.specs.Triple.{Present}
 use Rattle.basis.specs.Contract.{coefficients}
 

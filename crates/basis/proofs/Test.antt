@@ -4,7 +4,7 @@
 use mathlib.Core.List.{List}
 use mathlib.Core.Bool.{Bool}
 use Prim.Native.Nat.{ℕ}
-use Rattle.triple.specs.Contract.{ClosedAsked, ClosedTest}
+use Rattle.span.specs.Contract.{ClosedAsked, ClosedTest}
 use Rattle.ground.specs.declared.Ground.{Ground}
 use Rattle.basis.specs.declared.Divisor.{Divisor}
 use Rattle.basis.specs.Contract.{Tripled, TripleOf, BasisAsked, BasisTest}

@@ -18,7 +18,7 @@ use Rattle.divisor.proofs.Table.{degree}
 use Rattle.divisor.proofs.Members.{members}
 use Rattle.vector.specs.Vector.{width, element}
 use Rattle.triple.specs.Triple.{Full}
-use Rattle.triple.specs.Contract.{Small}
+use Rattle.span.specs.Contract.{Small}
 use Rattle.ground.specs.declared.Ground.{Ground}
 use Rattle.ground.specs.Ground.{Grounded}
 use Rattle.basis.specs.declared.Divisor.{Divisor}

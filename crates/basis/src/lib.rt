@@ -144,5 +144,5 @@ pub fn is_basis(g: Ground, r: Divisor) -> bool
     let mut t = [[0u32; 26]; 3];
     let mut d = [0usize; 3];
     triple_of(r, &mut t, &mut d);
-    triple::closed(g.p, &g.cube, &t, &d)
+    span::closed(g.p, &g.cube, &t, &d)
 }

@@ -7,8 +7,8 @@ use Rattle.algebra.proofs.Laws.{neg-neg, mul-neg}
 use Rattle.field.specs.Residue.{Z, el}
 use Rattle.field.proofs.Element.{el-one}
 use Rattle.field.specs.Contract.{Is}
-use Rattle.triple.specs.Equation.{curve-of}
-use Rattle.triple.specs.declared.equation.Equation.{Equation}
+use Rattle.equation.specs.Equation.{curve-of}
+use Rattle.equation.specs.declared.Equation.{Equation}
 use Rattle.ground.specs.Ground.{Unit-of, GroundAsked}
 
 module _ {e : Equation} (h : GroundAsked e) where

@@ -10,8 +10,8 @@ use Rattle.algebra.specs.Ring.{CommRing}
 use Rattle.field.specs.Residue.{Z, el}
 use Rattle.curve.specs.Curve.{Curve}
 use Rattle.triple.specs.Setting.{Ready}
-use Rattle.triple.specs.Equation.{curve-of, Coefficients, IsCube}
-use Rattle.triple.specs.declared.equation.Equation.{Equation}
+use Rattle.equation.specs.Equation.{curve-of, Coefficients, IsCube}
+use Rattle.equation.specs.declared.Equation.{Equation}
 use Rattle.ground.specs.declared.Ground.{Ground}
 
 pub record Unit-of (p k : ℕ) (C : Curve (Z p)) : Type 0 where

@@ -1,5 +1,5 @@
 // The ground of the arithmetic on a curve, by value: the modulus p, the inverse of −a0 and the vector of y³.
-use triple::equation::Equation;
+use equation::Equation;
 ghost use Rattle.ground.specs.Ground.{GroundAsked, GroundOf};
 
 pub struct Ground {
@@ -14,6 +14,6 @@ pub fn of(e: Equation) -> Ground
     ensures { λ g. ⌜ GroundOf e g ⌝ }
 {
     let unit = field::neg(e.p, 1);
-    let cube = triple::equation::cube(e);
+    let cube = equation::cube(e);
     Ground { p: e.p, unit, cube }
 }

@@ -18,9 +18,9 @@ use Rattle.curve.specs.Sequence.{coefficient, twist}
 use Rattle.curve.specs.Monomial.{power, monomial, mono, Below}
 use Rattle.curve.proofs.Filtration.{coefficient-below}
 use Rattle.vector.specs.Vector.{Vec, Top, at, res, row, element, width}
-use Rattle.vector.specs.Contract.{RowsOf}
+use Rattle.multiplication.specs.Contract.{RowsOf}
 use Rattle.vector.proofs.Loop.{vec-set, zeros-at}
-use Rattle.vector.proofs.Product.{zeros-vec}
+use Rattle.vector.proofs.Loop.{zeros-vec}
 use Rattle.vector.proofs.Element.{element-coefficient}
 use Rattle.ground.specs.Ground.{Unit-of}
 use Rattle.functional.proofs.Build.{Begun, begun-start, begun-next, begun-done}

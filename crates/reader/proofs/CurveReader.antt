@@ -15,8 +15,8 @@ use Rattle.field.specs.Residue.{Z, el}
 use Rattle.field.proofs.Element.{el-one}
 use Rattle.field.proofs.Invert.{one-not-zero}
 use Rattle.curve.specs.Curve.{Curve}
-use Rattle.triple.specs.Equation.{curve-of, Coefficients}
-use Rattle.triple.specs.declared.equation.Equation.{Equation}
+use Rattle.equation.specs.Equation.{curve-of, Coefficients}
+use Rattle.equation.specs.declared.Equation.{Equation}
 use Rattle.record.specs.Cause.{Stage, FirstCause}
 use Rattle.record.specs.Curve.{modulus, coefficient-number, equation, curve-rest}
 use Rattle.reader.specs.Contract.{Checked, coefficient-of, equation-stages}

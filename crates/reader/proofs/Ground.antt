@@ -7,9 +7,9 @@ use mathlib.Core.List.{List}
 use Prim.Native.Nat.{ℕ, _<_}
 use Rattle.field.specs.Residue.{Z}
 use Rattle.curve.specs.Curve.{Curve}
-use Rattle.vector.specs.Contract.{Cube}
-use Rattle.triple.specs.Equation.{Coefficients}
-use Rattle.triple.specs.declared.equation.Equation.{Equation}
+use Rattle.multiplication.specs.Contract.{Cube}
+use Rattle.equation.specs.Equation.{Coefficients}
+use Rattle.equation.specs.declared.Equation.{Equation}
 use Rattle.ground.specs.declared.Ground.{Ground}
 use Rattle.ground.specs.Ground.{Unit-of, Grounded, AtGround, GroundAsked, GroundOf}
 use Rattle.record.specs.Curve.{modulus, equation, AcceptedCurve, accepted-prime, accepted-below, setting-of}

@@ -10,8 +10,8 @@ use mathlib.Core.Path.{_≡_}
 use mathlib.Core.List.{List, [], _∷_, _++_}
 use Prim.Native.Nat.{ℕ, _+_, _*_, _<_, _≤_}
 use lib.ListN.{length, getD, drop}
-use Rattle.triple.specs.Equation.{curve-of}
-use Rattle.triple.specs.declared.equation.Equation.{Equation}
+use Rattle.equation.specs.Equation.{curve-of}
+use Rattle.equation.specs.declared.Equation.{Equation}
 use Rattle.divisor.specs.Kind.{Kind, code, count, size}
 use Rattle.basis.specs.Divisor.{numbers}
 use Rattle.basis.specs.declared.Divisor.{Divisor}

@@ -15,7 +15,7 @@ use Rattle.field.specs.Residue.{Z}
 use Rattle.curve.specs.Curve.{Curve}
 use Rattle.divisor.specs.Kind.{Kind}
 use Rattle.layout.specs.Layout.{number2}
-use Rattle.triple.specs.declared.equation.Equation.{Equation}
+use Rattle.equation.specs.declared.Equation.{Equation}
 use Rattle.ground.specs.declared.Ground.{Ground}
 use Rattle.ground.specs.Ground.{GroundOf}
 use Rattle.basis.specs.Divisor.{Based}

@@ -1,7 +1,7 @@
 // Curve and divisor records in bytes: reading, refusing and writing. specs/ says what is accepted and what is refused.
 use basis::Divisor;
+use equation::Equation;
 use ground::Ground;
-use triple::equation::Equation;
 ghost use mathlib.Core.Path.{_≡_};
 ghost use mathlib.Core.List.{[], _∷_};
 ghost use Prim.Native.Nat.{ℕ, _<_, _≤_};
@@ -138,8 +138,8 @@ fn equation_cause(e: Equation) -> u8
     if !coefficients_below(e) {
         return 4;
     }
-    let f = triple::equation::cube(e);
-    if !triple::equation::nonsingular(e, &f) {
+    let f = equation::cube(e);
+    if !equation::nonsingular(e, &f) {
         return 5;
     }
     0

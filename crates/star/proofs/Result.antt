@@ -26,7 +26,7 @@ use Rattle.divisor.specs.Kind.{Kind, code, k0, k11, k21, k22, k31, polynomials}
 use Rattle.divisor.proofs.Monomials.{mono-y, mono-xx, mono-xy, mono-yy}
 use Rattle.divisor.proofs.Star.{Matched, star-recognised}
 use Rattle.vector.specs.Vector.{at, res, row, element, width}
-use Rattle.vector.specs.Contract.{YMultiples}
+use Rattle.multiplication.specs.Contract.{YMultiples}
 use Rattle.functional.proofs.Member.{all-members}
 use Rattle.functional.proofs.Degrees.{degrees-lowest, none-1, none-2, none-5, Steps, steps-31, steps-21, steps-22, steps-11, steps-0}
 use Rattle.functional.proofs.Candidate.{Scene, Solves, meets-one, meets-x, meets-y, colon-x, colon-one, colon-x-one, colon-y-one, colon-all}

@@ -10,7 +10,7 @@ use Rattle.ideal.specs.Ideal.{IsIdeal}
 use Rattle.ideal.specs.Reduced.{IsStar}
 use Rattle.divisor.specs.Kind.{Kind, IdealOf}
 use Rattle.vector.specs.Vector.{at, row}
-use Rattle.vector.specs.Contract.{YMultiplesAsked}
+use Rattle.multiplication.specs.Contract.{YMultiplesAsked}
 use Rattle.triple.specs.Setting.{Setting, ring, poles-of}
 use Rattle.triple.specs.Triple.{Full, Spanned}
 use Rattle.ground.specs.declared.Ground.{Ground}

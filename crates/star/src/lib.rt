@@ -3,7 +3,7 @@
 // degree d + 2, d + 5 or d + 8.
 ghost use Prim.Native.Nat.{_+_};
 ghost use Rattle.vector.specs.Vector.{row};
-ghost use Rattle.vector.specs.Contract.{YMultiples};
+ghost use Rattle.multiplication.specs.Contract.{YMultiples};
 ghost use Rattle.star.specs.Contract.{StarAsked, StarOf, LeastOf, MultiplesAsked, FromAsked};
 ghost use Rattle.star.specs.Parts.{PosedW, ValuesOf, TermYAsked, TermY, TermXAsked, TermX, TermOneAsked, TermOne, SolveAsked, Solved};
 ghost use Rattle.star.specs.Parts.{Posed, ByKind};
@@ -162,7 +162,7 @@ fn multiples(g: Ground, t: &[[u32; 26]; 3], j: usize, e: usize) -> [[u32; 26]; 3
     requires { ⌜ MultiplesAsked g (now t) j e ⌝ }
     ensures { λ r. ⌜ YMultiples (g .p) (g .cube) (row (now (t .entry)) j) (e + 1) r ⌝ }
 {
-    vector::y_multiples(g.p, &g.cube, &t[j], e + 1)
+    multiplication::y_multiples(g.p, &g.cube, &t[j], e + 1)
 }
 
 // The star of a triple whose least degree is that of the class j, where it is not the zero class.

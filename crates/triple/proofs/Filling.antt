@@ -19,17 +19,19 @@ use Rattle.ideal.proofs.Same.{same-trans}
 use Rattle.ideal.proofs.Span.{Span, span-each, span-same, span-within}
 use Rattle.vector.specs.Vector.{at, row, element}
 use Rattle.triple.specs.Setting.{Setting, ring, poles-of}
-use Rattle.triple.specs.Triple.{Triple, elements, Spanned}
-use Rattle.triple.specs.Contract.{InsertAsked, Inserted, AllAsked, AllInserted, Whole, WholeTest, listed}
+use Rattle.triple.specs.Triple.{Triple, elements, Spanned, listed}
+use Rattle.algebra.specs.Answers.{Answers}
+use Rattle.algebra.proofs.Answers.{answer-no}
+use Rattle.triple.specs.Contract.{InsertAsked, Inserted, AllAsked, AllInserted, Whole}
 use Rattle.triple.proofs.Members.{each-row, row-each}
 use Rattle.triple.proofs.Leads.{whole-all}
-use Rattle.triple.proofs.Products.{listed-each, listed-at, listed-rest, span-cons}
+use Rattle.triple.proofs.Listed.{listed-each, listed-at, listed-rest, span-cons}
 
-pub whole-no : (d : List ℕ) → (Whole d → ⊥) → WholeTest d false
-whole-no d n = record { yes-whole = λ e. let z : _≡_ {A = ℕ} 0 1 = cc in absurd (omega arith); no-whole = λ e. n }
+pub whole-no : (d : List ℕ) → (Whole d → ⊥) → Answers (Whole d) false
+whole-no d n = answer-no n
 
-pub whole-last : (d : List ℕ) → at d 0 ≡ 0 → at d 1 ≡ 4 → WholeTest d (eqb (at d 2) 8)
-whole-last d a b = record { yes-whole = λ e. record { zeroth = a; first = b; second = eqb-true (at d 2) 8 e }; no-whole = λ e w. eqb-false (at d 2) 8 e (w .second) }
+pub whole-last : (d : List ℕ) → at d 0 ≡ 0 → at d 1 ≡ 4 → Answers (Whole d) (eqb (at d 2) 8)
+whole-last d a b = record { holds = λ e. record { zeroth = a; first = b; second = eqb-true (at d 2) 8 e }; fails = λ e w. eqb-false (at d 2) 8 e (w .second) }
 
 pub record Filling (p : ℕ) (t ys t′ : List (List ℕ)) (d′ : List ℕ) (j : ℕ) : Type 0 where
   pub bound : j ≤ 3

@@ -4,9 +4,6 @@ pub mod Members
 pub mod Leads
 pub mod Turns
 pub mod Insertion
-pub mod Reduction
-pub mod Products
-pub mod Ideals
+pub mod Listed
+pub mod Empty
 pub mod Filling
-pub mod Vectors
-pub mod Singular

@@ -1,13 +1,8 @@
 -- What the functions on triples require and ensure. Where a contract speaks of the ring it does so for every setting.
 --   InsertAsked, Inserted        insert: the span afterwards is the span of the triple and v
 --   TurnAsked, Turned            turn: one turn of insert
---   ReduceAsked, Rest            reduce: v less a member of the span, with no coefficient at a lead
---   ClosedAsked, ClosedTest      closed: is the span closed under y
---   AtAsked, AtTest              closed_at: is y times the j-th member in the span
---   ProductAsked, Multiplied     product: the span is the product ideal
---   PutAsked, Put                insert_products: the span afterwards is that of the triple and the products
 --   AllAsked, AllInserted        insert_all: the span afterwards is the span of the triple and the three vectors
---   Whole, WholeTest             whole: are the degrees (0, 4, 8)
+--   Whole                        whole: the degrees are (0, 4, 8)
 use mathlib.Core.Path.{_≡_}
 use mathlib.Core.Bool.{Bool, true, false}
 use mathlib.Core.List.{List, _∷_, _++_}
@@ -20,7 +15,7 @@ use Rattle.curve.specs.Curve.{y}
 use Rattle.curve.specs.Sequence.{coefficient}
 use Rattle.field.specs.Residue.{Z}
 use Rattle.vector.specs.Vector.{Vec, Top, at, row, width, element}
-use Rattle.vector.specs.Contract.{Rows, RowsOf}
+use Rattle.multiplication.specs.Contract.{Rows, RowsOf}
 use Rattle.triple.specs.Setting.{Setting, ring, poles-of, Ready}
 use Rattle.triple.specs.Triple.{Triple, Full, elements, Spanned}
 
@@ -58,77 +53,6 @@ pub record Turned (p : ℕ) (t : List (List ℕ)) (d v : List ℕ) (m : ℕ) (t�
   pub falls : degrees d′ + n ≤ degrees d + m
   pub same : (S : Setting p) → SameIdeal (ring S) (Span (poles-of S) (element p (S .curve) v′ ∷ elements S t′)) (Span (poles-of S) (element p (S .curve) v ∷ elements S t))
 
-pub record ReduceAsked (p : ℕ) (t : List (List ℕ)) (d v : List ℕ) (top : ℕ) : Type 0 where
-  pub triple : Triple p t d
-  pub vec : Vec p v
-  pub v-top : Top v top
-  pub room : top ≤ width
-
-pub record Rest (p : ℕ) (t : List (List ℕ)) (d v v′ : List ℕ) : Type 0 where
-  pub vec : Vec p v′
-  pub normal : (n : ℕ) → n < width → at d (n % 3) ≤ n → at v′ n ≡ 0
-  pub coset : (S : Setting p) → (s : ring S .Car) × Spanned S t s × (element p (S .curve) v ≡ ring S .add (element p (S .curve) v′) s)
-
--- the degrees of a record's triple
-abbrev pub Small : List ℕ → Type 0
-Small d = (j : ℕ) → j < 3 → at d j ≤ 8
-
-pub record ClosedAsked (p : ℕ) (f : List ℕ) (t : List (List ℕ)) (d : List ℕ) : Type 0 where
-  pub ready : Ready p f
-  pub full : Full p t d
-  pub small : Small d
-
--- y times the j-th member leaves a rest that is not zero and has no coefficient at a lead of the span
-pub record Open (p : ℕ) (f : List ℕ) (t : List (List ℕ)) (d : List ℕ) (R : Ready p f) : Type 0 where
-  pub j : ℕ
-  pub j-below : j < 3
-  pub rest : ring (R .setting) .Car
-  pub s : ring (R .setting) .Car
-  pub spanned : Spanned (R .setting) t s
-  pub split : ring (R .setting) .mul (y (R .setting .curve)) (element p (R .setting .curve) (row t j)) ≡ ring (R .setting) .add rest s
-  pub nonzero : ¬ (rest ≡ ring (R .setting) .zero)
-  pub normal : (n : ℕ) → at d (n % 3) ≤ n → coefficient (R .setting .curve) n rest ≡ Z p .zero
-
-pub record ClosedTest (p : ℕ) (f : List ℕ) (t : List (List ℕ)) (d : List ℕ) (r : Bool) : Type 0 where
-  pub yes-closed : r ≡ true → (R : Ready p f) (j : ℕ) → j < 3 → Spanned (R .setting) t (ring (R .setting) .mul (y (R .setting .curve)) (element p (R .setting .curve) (row t j)))
-  pub no-closed : r ≡ false → (R : Ready p f) → Open p f t d R
-
-pub record AtAsked (p : ℕ) (f : List ℕ) (t : List (List ℕ)) (d : List ℕ) (j : ℕ) : Type 0 where
-  pub closed : ClosedAsked p f t d
-  pub inside : j < 3
-
-pub record AtTest (p : ℕ) (f : List ℕ) (t : List (List ℕ)) (d : List ℕ) (j : ℕ) (r : Bool) : Type 0 where
-  pub yes-at : r ≡ true → (R : Ready p f) → Spanned (R .setting) t (ring (R .setting) .mul (y (R .setting .curve)) (element p (R .setting .curve) (row t j)))
-  pub no-at : r ≡ false → (R : Ready p f) → Open p f t d R
-
-pub record ProductAsked (p : ℕ) (f : List ℕ) (t₁ : List (List ℕ)) (d₁ : List ℕ) (t₂ : List (List ℕ)) (d₂ : List ℕ) : Type 0 where
-  pub ready : Ready p f
-  pub full₁ : Full p t₁ d₁
-  pub small₁ : Small d₁
-  pub full₂ : Full p t₂ d₂
-  pub small₂ : Small d₂
-
-pub record Multiplied (p : ℕ) (f : List ℕ) (t₁ t₂ t : List (List ℕ)) (d : List ℕ) : Type 0 where
-  pub full : Full p t d
-  pub same : (R : Ready p f) → SameIdeal (ring (R .setting)) (Spanned (R .setting) t) (Product (ring (R .setting)) (Spanned (R .setting) t₁) (Spanned (R .setting) t₂))
-
--- f (n − 1), …, f 0 before the elements bs
-abbrev pub listed : {A : Type 0} → (ℕ → A) → ℕ → List A → List A
-listed f zero bs = bs
-listed f (suc n) bs = f n ∷ listed f n bs
-
-pub record PutAsked (p : ℕ) (t₁ : List (List ℕ)) (d₁ : List ℕ) (ys : List (List ℕ)) (top : ℕ) (t : List (List ℕ)) (d : List ℕ) : Type 0 where
-  pub prime : Prime p
-  pub full : Full p t₁ d₁
-  pub small : Small d₁
-  pub rows : Rows p ys top
-  pub low : top ≤ 9
-  pub triple : Triple p t d
-
-pub record Put (p : ℕ) (t₁ ys t t′ : List (List ℕ)) (d′ : List ℕ) : Type 0 where
-  pub triple : Triple p t′ d′
-  pub same : (S : Setting p) (g : ring S .Car) → RowsOf p (S .curve) ys g → SameIdeal (ring S) (Spanned S t′) (Span (poles-of S) (listed (λ i. ring S .mul (element p (S .curve) (row t₁ i)) g) 3 (elements S t)))
-
 pub record AllAsked (p : ℕ) (t : List (List ℕ)) (d : List ℕ) (ys : List (List ℕ)) (top : ℕ) : Type 0 where
   pub prime : Prime p
   pub triple : Triple p t d
@@ -144,7 +68,3 @@ pub record Whole (d : List ℕ) : Type 0 where
   pub zeroth : at d 0 ≡ 0
   pub first : at d 1 ≡ 4
   pub second : at d 2 ≡ 8
-
-pub record WholeTest (d : List ℕ) (r : Bool) : Type 0 where
-  pub yes-whole : r ≡ true → Whole d
-  pub no-whole : r ≡ false → ¬ Whole d

@@ -2,4 +2,3 @@
 pub mod Setting
 pub mod Triple
 pub mod Contract
-pub mod Equation

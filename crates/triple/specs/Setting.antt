@@ -13,7 +13,7 @@ use Rattle.ideal.specs.Poles.{Poles}
 use Rattle.curve.specs.Curve.{Curve, Coordinate}
 use Rattle.poles.specs.Poles.{poles}
 use Rattle.vector.specs.Vector.{Vec, Top}
-use Rattle.vector.specs.Contract.{Cube}
+use Rattle.multiplication.specs.Contract.{Cube}
 
 pub record Setting (p : ℕ) : Type 0 where
   pub prime : Prime p

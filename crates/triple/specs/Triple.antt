@@ -7,10 +7,11 @@
 --   Full p t d         … of which none is absent
 --   elements S t       the elements of the ring that the vectors t stand for
 --   Spanned S t        their span over k[x]
+--   listed f n bs      the list f (n − 1), …, f 0, bs
 use mathlib.Core.Path.{_≡_}
 use mathlib.Core.Logic.{_⊎_}
-use mathlib.Core.List.{List, map}
-use Prim.Native.Nat.{ℕ, suc, _%_, _<_}
+use mathlib.Core.List.{List, _∷_, map}
+use Prim.Native.Nat.{ℕ, zero, suc, _%_, _<_}
 use lib.ListN.{length}
 use Rattle.algebra.specs.Ring.{CommRing}
 use Rattle.ideal.proofs.Span.{Span}
@@ -45,3 +46,7 @@ elements {p} S t = map (element p (S .curve)) t
 
 abbrev pub Spanned : {p : ℕ} (S : Setting p) → List (List ℕ) → ring S .Car → Type 0
 Spanned S t = Span (poles-of S) (elements S t)
+
+abbrev pub listed : {A : Type 0} → (ℕ → A) → ℕ → List A → List A
+listed f zero bs = bs
+listed f (suc n) bs = f n ∷ listed f n bs

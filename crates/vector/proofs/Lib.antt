@@ -2,9 +2,4 @@
 pub mod Loop
 pub mod Monomial
 pub mod Element
-pub mod Entry
 pub mod Lead
-pub mod Portion
-pub mod Product
-pub mod ByY
-pub mod Powers

@@ -2,10 +2,10 @@
 --   gap-zero           a vector is 0 at a gap
 --   set-cases          what holds of the new number at n and of the old ones elsewhere holds after a store
 --   vec-set            a store keeps a vector, if the new number is below p, and 0 at a gap
---   zeros-at           an array of zeros
+--   zeros-at, zeros-vec           an array of zeros, and the zero vector
+--   zero-is            a number below p whose residue is zero is 0
 --   added-start, added-more, added-end            axpy; added-none with the factor 0, added-skip at a number 0
 --   scaled-start, scaled-more, scaled-end         scale
---   shifted-start, shifted-more, shifted-skip, shifted-end      shift_y
 --   paired-start, paired-more, paired-end         dot
 --   seen-more, zero-test-true, zero-test-false    is_zero
 use mathlib.Core.Path.{_≡_, refl, sym, _∙_, ap, subst}
@@ -24,7 +24,7 @@ use Rattle.field.specs.Contract.{Is}
 use Rattle.field.proofs.Invert.{lt-of-ne}
 use Rattle.ideal.specs.Poles.{IsGap}
 use Rattle.vector.specs.Vector.{Vec, at, res, width}
-use Rattle.vector.specs.Contract.{AxpyAsked, Added, ScaleAsked, Scaled, ShiftAsked, Shifted, total, pairing, ZeroTest}
+use Rattle.vector.specs.Contract.{AxpyAsked, Added, ScaleAsked, Scaled, total, pairing, ZeroTest}
 
 pub gap-zero : {p : ℕ} {v : List ℕ} → Vec p v → (n : ℕ) → IsGap n → at v n ≡ 0
 gap-zero {v = v} h n (inl e) = ap (at v) e ∙ h .gap-1
@@ -157,44 +157,9 @@ zeros-at zero n = refl
 zeros-at (suc k) zero = refl
 zeros-at (suc k) (suc n) = zeros-at k n
 
-pub shifted-start : (v : List ℕ) → Shifted v 0 (replicate 26 0)
-shifted-start v =
-    record {
-      len = refl;
-      low = λ n l. zeros-at 26 n;
-      moved = λ n l m. absurd (omega arith);
-      dropped = λ n l. zeros-at 26 (n + 4);
-      high = λ n l. zeros-at 26 (n + 4);
-    }
-
-pub shifted-more : {v r : List ℕ} {top n : ℕ} → ShiftAsked v top → Shifted v n r → n < top → n % 3 < 2 → Shifted v (n + 1) (set r (n + 4) (at v n))
-shifted-more {v} {r} {top} {n} h a l k =
-    record {
-      len = length-set r (n + 4) (at v n) ∙ a .len;
-      low = λ j m. set-cases (λ w. w ≡ 0) r (n + 4) (at v n) j inside (λ d. absurd (omega arith)) (λ d. a .low j m);
-      moved = λ j m b. set-cases (λ w. w ≡ at v j) r (n + 4) (at v n) (j + 4) inside (λ d. ap (at v) (omega arith)) (λ d. a .moved j (omega arith) b);
-      dropped = λ j m. set-cases (λ w. w ≡ 0) r (n + 4) (at v n) (j + 4) inside (λ d. absurd (omega arith)) (λ d. a .dropped j m);
-      high = λ j m. set-cases (λ w. w ≡ 0) r (n + 4) (at v n) (j + 4) inside (λ d. absurd (omega arith)) (λ d. a .high j (omega arith));
-    }
-  where
-    inside : n + 4 < length r
-    inside = omega (arith, a .len, h .room)
-
-pub shifted-skip : {v r : List ℕ} {n : ℕ} → Shifted v n r → n % 3 ≡ 2 → Shifted v (n + 1) r
-shifted-skip {v} {r} {n} a k =
-    record {
-      len = a .len;
-      low = a .low;
-      moved = λ j m b. a .moved j (omega arith) b;
-      dropped = a .dropped;
-      high = λ j m. a .high j (omega arith);
-    }
-
-pub shifted-as : {v r r′ : List ℕ} {n : ℕ} → r′ ≡ r → Shifted v n r → Shifted v n r′
-shifted-as {v} {n = n} e a = subst (λ l. Shifted v n l) (sym e) a
-
-pub shifted-end : {v r : List ℕ} {n top : ℕ} → Shifted v n r → n ≡ top → Shifted v top r
-shifted-end {v} {r} a d = subst (λ k. Shifted v k r) d a
+pub zeros-vec : (p : ℕ) → 0 < p → Vec p (replicate 26 0)
+zeros-vec p h =
+    record { len = refl; below = λ n. subst (λ a. a < p) (sym (zeros-at 26 n)) h; gap-1 = refl; gap-2 = refl; gap-5 = refl }
 
 pub paired-start : (p : ℕ) (a b : List ℕ) (s from : ℕ) → 0 < p → Is p 0 (pairing p a b s from from)
 paired-start p a b s from h =

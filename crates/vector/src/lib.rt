@@ -1,14 +1,10 @@
 // Vectors of residues modulo p, indexed by pole number. A vector is 26 numbers below p, 0 at the places 1, 2 and 5.
 // The vector that a loop works on is lent, and loops end at the degree.
-mod normal;
-
 ghost use mathlib.Core.Path.{_≡_};
 ghost use lib.ListN.{length};
 ghost use Rattle.field.specs.Contract.{Is};
 ghost use Rattle.vector.specs.Vector.{width};
-ghost use Rattle.vector.specs.Contract.{AxpyAsked, Added, ClearAsked, Cleared, MonicAsked, MadeMonic, TimesYAsked, TimesY, YMultiplesAsked, YMultiples, TimesAsked, Times, DotAsked, pairing, ZeroTest, ScaleAsked, Scaled, ShiftAsked, Shifted};
-use crate::normal::X_POLE;
-use crate::normal::Y_POWER;
+ghost use Rattle.vector.specs.Contract.{AxpyAsked, Added, ClearAsked, Cleared, MonicAsked, MadeMonic, DotAsked, pairing, ZeroTest, ScaleAsked, Scaled};
 
 // c·x^(s/3)·b added to r, for b below e.
 pub fn axpy(p: u32, r: &mut [u32; 26], c: u32, b: &[u32; 26], s: usize, e: usize)
@@ -54,49 +50,6 @@ pub fn make_monic(p: u32, v: &mut [u32; 26], m: usize)
     }
 }
 
-// y·v for v below top, where f is y³.
-pub fn times_y(p: u32, f: &[u32; 26], v: &[u32; 26], top: usize) -> [u32; 26]
-    requires { ⌜ TimesYAsked p (now f) (now v) top ⌝ }
-    ensures { λ r. ⌜ TimesY p (now (f .entry)) (now (v .entry)) top r ⌝ }
-{
-    let mut out = shift_y(v, top);
-    let mut n = 8;
-    while n < top {
-        axpy(p, &mut out, v[n], f, n - 8, 13);
-        n += 3;
-    }
-    out
-}
-
-// v, y·v and y²·v for v below top, where f is y³.
-pub fn y_multiples(p: u32, f: &[u32; 26], v: &[u32; 26], top: usize) -> [[u32; 26]; 3]
-    requires { ⌜ YMultiplesAsked p (now f) (now v) top ⌝ }
-    ensures { λ r. ⌜ YMultiples p (now (f .entry)) (now (v .entry)) top r ⌝ }
-{
-    let a = times_y(p, f, v, top);
-    let b = times_y(p, f, &a, top + 4);
-    [*v, a, b]
-}
-
-// b·g for b below e, from the vectors g, y·g and y²·g, the first of them below top.
-pub fn times(p: u32, b: &[u32; 26], e: usize, ys: &[[u32; 26]; 3], top: usize) -> [u32; 26]
-    requires { ⌜ TimesAsked p (now b) e (now ys) top ⌝ }
-    ensures { λ r. ⌜ Times p (now (b .entry)) e (now (ys .entry)) top r ⌝ }
-{
-    let powers = Y_POWER;
-    let poles = X_POLE;
-    let mut out = [0u32; 26];
-    let mut n = 0;
-    while n < e {
-        let j = powers[n] as usize;
-        if j < 3 {
-            axpy(p, &mut out, b[n], &ys[j], poles[n] as usize, top + 4 * j);
-        }
-        n += 1;
-    }
-    out
-}
-
 // The sum of a[n]·b[n − s] for n from `from` up to `to`.
 pub fn dot(p: u32, a: &[u32; 26], b: &[u32; 26], s: usize, from: usize, to: usize) -> u32
     requires { ⌜ DotAsked p (now a) (now b) s from to ⌝ }
@@ -136,22 +89,4 @@ fn scale(p: u32, v: &mut [u32; 26], c: u32, e: usize)
         v[i] = field::mul(p, c, v[i]);
         i += 1;
     }
-}
-
-// The part of y·v that comes from the classes 0 and 1 modulo 3: v[n] at n + 4, unless a power of x stands there.
-fn shift_y(v: &[u32; 26], top: usize) -> [u32; 26]
-    requires { ⌜ ShiftAsked (now v) top ⌝ }
-    ensures { λ r. ⌜ Shifted (now (v .entry)) top r ⌝ }
-{
-    let powers = Y_POWER;
-    let mut out = [0u32; 26];
-    let mut n = 0;
-    while n < top {
-        let m = n + 4;
-        if powers[m] != 0 {
-            out[m] = v[n];
-        }
-        n += 1;
-    }
-    out
 }

@@ -1,6 +1,6 @@
 -- `counting::put_report` meets its contract: what is printed for the records once the curve is accepted, or the line of the curve's refusal.
 use denote.Ref.{now}
-use Rattle.triple.specs.declared.equation.Equation.{Equation}
+use Rattle.equation.specs.declared.Equation.{Equation}
 use Rattle.calls.specs.Call.{list-of}
 use Rattle.answer.proofs.Curve.{curve-passes, curve-asked, curve-on, curve-cause}
 use Rattle.counting.proofs.Printed.{printable, printed-found, printed-cause}

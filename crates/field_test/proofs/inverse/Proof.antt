@@ -15,7 +15,7 @@ returns-2 : tie.Need-returns-2
 returns-2 c = search needs
 
 inverse-requires : tie.Need-inverse-requires
-inverse-requires c κs = record { prime = c .before .is-prime .ensures .prime (not-false _ (c .if2 .left)); below = omega arith }
+inverse-requires c κs = record { prime = c .before .is-prime .ensures .holds (not-false _ (c .if2 .left)); below = omega arith }
 
 number-requires : tie.Need-number-requires
 number-requires c κs = search needs

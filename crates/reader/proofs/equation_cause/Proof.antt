@@ -48,14 +48,14 @@ returns-4 c =
     let prime = c .before .before .before .before .before .before .before .is-prime .ensures .holds (not-false _ (c .before .before .before .before .before .before .if2 .left)) in
     let small = c .before .before .before .before .before .before .before .before .if1 .left in
     let below = c .before .before .before .before .before .coefficients-below .ensures .holds (not-false _ (c .before .before .before .before .if3 .left)) in
-    checked-cause 5 (omega arith) (inr ((prime, small), inr (below, inl (c .before .nonsingular .ensures .no-nonsingular (not-true _ (c .if4 .taken)), refl))))
+    checked-cause 5 (omega arith) (inr ((prime, small), inr (below, inl (c .before .nonsingular .ensures .fails (not-true _ (c .if4 .taken)), refl))))
 
 returns-5 : tie.Need-returns-5
 returns-5 c =
     let prime = c .before .before .before .before .before .before .before .is-prime .ensures .holds (not-false _ (c .before .before .before .before .before .before .if2 .left)) in
     let small = c .before .before .before .before .before .before .before .before .if1 .left in
     let below = c .before .before .before .before .before .coefficients-below .ensures .holds (not-false _ (c .before .before .before .before .if3 .left)) in
-    checked-none ((prime, small), (below, (c .before .nonsingular .ensures .yes-nonsingular (not-false _ (c .if4 .left)), tt)))
+    checked-none ((prime, small), (below, (c .before .nonsingular .ensures .holds (not-false _ (c .if4 .left)), tt)))
 
 pub equation-cause-spec : {M : Type 1} → statement M
 equation-cause-spec =

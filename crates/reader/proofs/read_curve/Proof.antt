@@ -3,7 +3,7 @@ use borrow.Author.Needs.{needs}
 use mathlib.Core.Path.{ap}
 use mathlib.Core.Logic.{inl, inr}
 use denote.Ref.{now}
-use Rattle.triple.specs.declared.equation.Equation.{Equation}
+use Rattle.equation.specs.declared.Equation.{Equation}
 use Rattle.record.specs.Curve.{curve-form}
 use Rattle.record.proofs.Cause.{first-append, passes-append}
 use Rattle.reader.proofs.CurveReader.{rest-of, equation-checked}

@@ -18,7 +18,7 @@ whole-requires : tie.Need-whole-requires Inv-loop μ-loop
 whole-requires c κs = tt
 
 returns : tie.Need-returns Inv-loop μ-loop
-returns c = fill-stop (c .before .before .before .before .before .pre) (c .before .before .before .before .loop .inv) (c .before .whole .ensures .yes-whole (c .if1 .taken))
+returns c = fill-stop (c .before .before .before .before .before .pre) (c .before .before .before .before .loop .inv) (c .before .whole .ensures .holds (c .if1 .taken))
 
 mul-v : tie.Need-mul-v Inv-loop μ-loop
 mul-v c = omega arith

@@ -1,0 +1,75 @@
+-- What the functions on products of vectors require and ensure.
+--   Cube p C f                f is the vector of y³
+--   TimesYAsked, TimesY       times_y: y·v
+--   Rows p ys top             three vectors, the j-th below top + 4·j
+--   RowsOf p C ys g           … which stand for g, y·g and y²·g
+--   YMultiplesAsked, YMultiples       y_multiples: v, y·v and y²·v
+--   TimesAsked, Times         times: b·g from the y-multiples of g
+--   ShiftAsked, Shifted       shift_y: v[n] at the place n + 4, for each n of the classes 0 and 1 modulo 3
+use mathlib.Core.Path.{_≡_}
+use mathlib.Core.List.{List}
+use Prim.Native.Nat.{ℕ, _+_, _*_, _-_, _%_, _<_, _≤_}
+use lib.ListN.{length}
+use Rattle.algebra.specs.Ring.{CommRing}
+use Rattle.field.specs.Residue.{Z}
+use Rattle.curve.specs.Curve.{Curve, Coordinate, y}
+use Rattle.vector.specs.Vector.{Vec, Top, at, row, element, y-to, width}
+
+-- f is the vector of y³
+pub record Cube (p : ℕ) (C : Curve (Z p)) (f : List ℕ) : Type 0 where
+  pub is : element p C f ≡ Coordinate C .mul (y C) (Coordinate C .mul (y C) (y C))
+
+pub record TimesYAsked (p : ℕ) (f v : List ℕ) (top : ℕ) : Type 0 where
+  pub f-vec : Vec p f
+  pub f-top : Top f 13
+  pub v-vec : Vec p v
+  pub v-top : Top v top
+  pub room : top ≤ 22
+
+pub record TimesY (p : ℕ) (f v : List ℕ) (top : ℕ) (r : List ℕ) : Type 0 where
+  pub vec : Vec p r
+  pub top-out : Top r (top + 4)
+  pub value : (C : Curve (Z p)) → Cube p C f → element p C r ≡ Coordinate C .mul (y C) (element p C v)
+
+pub record YMultiplesAsked (p : ℕ) (f v : List ℕ) (top : ℕ) : Type 0 where
+  pub f-vec : Vec p f
+  pub f-top : Top f 13
+  pub v-vec : Vec p v
+  pub v-top : Top v top
+  pub room : top ≤ 18
+
+-- three vectors, the j-th below top + 4·j
+pub record Rows (p : ℕ) (ys : List (List ℕ)) (top : ℕ) : Type 0 where
+  pub len : length ys ≡ 3
+  pub vec : (j : ℕ) → j < 3 → Vec p (row ys j)
+  pub tops : (j : ℕ) → j < 3 → Top (row ys j) (top + 4 * j)
+
+-- the j-th vector is y^j·g
+pub record RowsOf (p : ℕ) (C : Curve (Z p)) (ys : List (List ℕ)) (g : Coordinate C .Car) : Type 0 where
+  pub is : (j : ℕ) → j < 3 → element p C (row ys j) ≡ Coordinate C .mul (y-to p C j) g
+
+pub record YMultiples (p : ℕ) (f v : List ℕ) (top : ℕ) (ys : List (List ℕ)) : Type 0 where
+  pub rows : Rows p ys top
+  pub value : (C : Curve (Z p)) → Cube p C f → RowsOf p C ys (element p C v)
+
+pub record TimesAsked (p : ℕ) (b : List ℕ) (e : ℕ) (ys : List (List ℕ)) (top : ℕ) : Type 0 where
+  pub b-vec : Vec p b
+  pub b-top : Top b e
+  pub rows : Rows p ys top
+  pub inside : e ≤ width
+  pub room : e + top ≤ 27
+
+pub record Times (p : ℕ) (b : List ℕ) (e : ℕ) (ys : List (List ℕ)) (top : ℕ) (r : List ℕ) : Type 0 where
+  pub vec : Vec p r
+  pub top-out : Top r (e + top - 1)
+  pub value : (C : Curve (Z p)) (g : Coordinate C .Car) → RowsOf p C ys g → element p C r ≡ Coordinate C .mul (element p C b) g
+
+pub record ShiftAsked (v : List ℕ) (top : ℕ) : Type 0 where
+  pub room : top + 4 ≤ width
+
+pub record Shifted (v : List ℕ) (top : ℕ) (r : List ℕ) : Type 0 where
+  pub len : length r ≡ width
+  pub low : (n : ℕ) → n < 4 → at r n ≡ 0
+  pub moved : (n : ℕ) → n < top → n % 3 < 2 → at r (n + 4) ≡ at v n
+  pub dropped : (n : ℕ) → n % 3 ≡ 2 → at r (n + 4) ≡ 0
+  pub high : (n : ℕ) → top ≤ n → at r (n + 4) ≡ 0

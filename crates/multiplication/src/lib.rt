@@ -1,0 +1,67 @@
+// Products of vectors: y·v by the vector of y³, and b·g from the y-multiples of g. Loops end at the degree.
+mod normal;
+
+ghost use Rattle.multiplication.specs.Contract.{TimesYAsked, TimesY, YMultiplesAsked, YMultiples, TimesAsked, Times, ShiftAsked, Shifted};
+use crate::normal::X_POLE;
+use crate::normal::Y_POWER;
+
+// y·v for v below top, where f is y³.
+pub fn times_y(p: u32, f: &[u32; 26], v: &[u32; 26], top: usize) -> [u32; 26]
+    requires { ⌜ TimesYAsked p (now f) (now v) top ⌝ }
+    ensures { λ r. ⌜ TimesY p (now (f .entry)) (now (v .entry)) top r ⌝ }
+{
+    let mut out = shift_y(v, top);
+    let mut n = 8;
+    while n < top {
+        vector::axpy(p, &mut out, v[n], f, n - 8, 13);
+        n += 3;
+    }
+    out
+}
+
+// v, y·v and y²·v for v below top, where f is y³.
+pub fn y_multiples(p: u32, f: &[u32; 26], v: &[u32; 26], top: usize) -> [[u32; 26]; 3]
+    requires { ⌜ YMultiplesAsked p (now f) (now v) top ⌝ }
+    ensures { λ r. ⌜ YMultiples p (now (f .entry)) (now (v .entry)) top r ⌝ }
+{
+    let a = times_y(p, f, v, top);
+    let b = times_y(p, f, &a, top + 4);
+    [*v, a, b]
+}
+
+// b·g for b below e, from the vectors g, y·g and y²·g, the first of them below top.
+pub fn times(p: u32, b: &[u32; 26], e: usize, ys: &[[u32; 26]; 3], top: usize) -> [u32; 26]
+    requires { ⌜ TimesAsked p (now b) e (now ys) top ⌝ }
+    ensures { λ r. ⌜ Times p (now (b .entry)) e (now (ys .entry)) top r ⌝ }
+{
+    let powers = Y_POWER;
+    let poles = X_POLE;
+    let mut out = [0u32; 26];
+    let mut n = 0;
+    while n < e {
+        let j = powers[n] as usize;
+        if j < 3 {
+            vector::axpy(p, &mut out, b[n], &ys[j], poles[n] as usize, top + 4 * j);
+        }
+        n += 1;
+    }
+    out
+}
+
+// The part of y·v that comes from the classes 0 and 1 modulo 3: v[n] at n + 4, unless a power of x stands there.
+fn shift_y(v: &[u32; 26], top: usize) -> [u32; 26]
+    requires { ⌜ ShiftAsked (now v) top ⌝ }
+    ensures { λ r. ⌜ Shifted (now (v .entry)) top r ⌝ }
+{
+    let powers = Y_POWER;
+    let mut out = [0u32; 26];
+    let mut n = 0;
+    while n < top {
+        let m = n + 4;
+        if powers[m] != 0 {
+            out[m] = v[n];
+        }
+        n += 1;
+    }
+    out
+}

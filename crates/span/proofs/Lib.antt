@@ -1,0 +1,3 @@
+-- Laws of the spans of triples.
+pub mod Reduction
+pub mod Products

@@ -1,0 +1,2 @@
+-- Spans of triples: what the functions on them ensure.
+pub mod Contract
