@@ -22,7 +22,7 @@ use Rattle.reader.specs.Reading.{GivenOn}
 use Rattle.record.specs.Value.{bytes-of}
 use Rattle.record.proofs.Cause.{first-append, passes-append}
 use Rattle.divisor.proofs.Codes.{size-least, size-most}
-use Rattle.record.proofs.Written.{written-out}
+use Rattle.reader.proofs.Answer.{written-out}
 use Rattle.calls.specs.Call.{room, list-of}
 use Rattle.report.specs.Report.{refused-line, lines, refused, counted}
 use Rattle.printing.specs.declared.Tallies.{Tallies}

@@ -74,7 +74,9 @@ module _ {p : ℕ} (S : Setting p) where
       go (suc (suc (suc j))) e m = absurd (omega arith)
 
   pub powers-all : (r : Car) → Span P powers r
-  powers-all r = lowering P {I′ = λ _. Unit} (span-space P powers) (record { nil = tt; sum = λ m n. tt; scale = λ k m. tt }) (λ g m. tt) (λ n (u, m, k). power-lead n (pole-number P k) (n % 3) refl) r tt
+  powers-all r =
+      lowering P {I′ = λ _. Unit} (span-space P powers) (record { nil = tt; sum = λ m n. tt; scale = λ k m. tt }) (λ g m. tt)
+      (λ n (u, m, k). power-lead n (pole-number P k) (n % 3) refl) r tt
 
   -- the elements u for which u·g is in the span of bs
   module _ (bs : List Car) (g : Car) where
@@ -137,7 +139,9 @@ module _ (e : Equation) {f : List ℕ} (asked : TestAsked e f) where
   pub start-asked : {ys : List (List ℕ)} {v : List ℕ} → YMultiples (e .p) f v 9 ys → AllAsked (e .p) no-rows no-degrees ys 9
   start-asked y = record { prime = asked .prime; triple = empty-triple positive; rows = y .rows; room = omega arith }
 
-  module _ {v w : List ℕ} {ys zs t : List (List ℕ)} {d : List ℕ} {t′ : List (List ℕ)} {d′ : List ℕ} (dy : DerivativeY e v) (my : YMultiples (e .p) f v 9 ys) (ay : AllInserted (e .p) no-rows no-degrees ys t d) (dx : DerivativeX e w) (mx : YMultiples (e .p) f w 10 zs) (ax : AllInserted (e .p) t d zs t′ d′) where
+  module _ {v w : List ℕ} {ys zs t : List (List ℕ)} {d : List ℕ} {t′ : List (List ℕ)} {d′ : List ℕ} (dy : DerivativeY e v)
+      (my : YMultiples (e .p) f v 9 ys) (ay : AllInserted (e .p) no-rows no-degrees ys t d) (dx : DerivativeX e w) (mx : YMultiples (e .p) f w 10 zs)
+      (ax : AllInserted (e .p) t d zs t′ d′) where
     rows-y : RowsOf (e .p) (curve-of e) ys (derivative-y (curve-of e))
     rows-y = subst (RowsOf (e .p) (curve-of e) ys) (dy .value) (my .value (curve-of e) (asked .is-cube .cube))
 
@@ -148,7 +152,10 @@ module _ (e : Equation) {f : List ℕ} (asked : TestAsked e f) where
     there = inserted-in S ax (mx .rows .len) rows-x ideal first (inserted-in S ay (my .rows .len) rows-y ideal second (λ h m. subst G (sym (empty-same positive S h .0 m)) (ideal .nil)))
 
     back : (g : R .Car) → G g → Spanned S t′ g
-    back g (r, s, (q, z, ez, es), eg) = subst (Spanned S t′) (sym (eg ∙ ap (R .add (R .mul r (derivative-x (curve-of e)))) (es ∙ ap (R .add (R .mul q (derivative-y (curve-of e)))) ez ∙ R .add-zero _))) (span-sum (poles-of S) (elements S t′) _ _ (inserted-times S ax (mx .rows .len) rows-x r) (inserted-keeps S ax (mx .rows .len) rows-x _ (inserted-times S ay (my .rows .len) rows-y q)))
+    back g (r, s, (q, z, ez, es), eg) =
+        subst (Spanned S t′)
+        (sym (eg ∙ ap (R .add (R .mul r (derivative-x (curve-of e)))) (es ∙ ap (R .add (R .mul q (derivative-y (curve-of e)))) ez ∙ R .add-zero _)))
+        (span-sum (poles-of S) (elements S t′) _ _ (inserted-times S ax (mx .rows .len) rows-x r) (inserted-keeps S ax (mx .rows .len) rows-x _ (inserted-times S ay (my .rows .len) rows-y q)))
 
     pub test : {r : Bool} → Answers (Whole d′) r → Answers (Nonsingular (curve-of e)) r
     test w =

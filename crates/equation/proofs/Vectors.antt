@@ -156,20 +156,30 @@ module _ (e : Equation) (h : Coefficients e) where
   positive : 0 < p
   positive = omega (arith, h .below-a0)
 
-  pub cube-of : {v0 v3 v4 v6 v7 v8 v9 v10 v11 v12 : ℕ} → Is p v0 (Z p .neg (C .c0)) → Is p v3 (Z p .neg (C .c1)) → Is p v4 (Z p .neg (C .c2)) → Is p v6 (Z p .neg (C .c3)) → Is p v7 (Z p .neg (C .c4)) → Is p v8 (Z p .neg (C .c5)) → Is p v9 (Z p .neg (C .c6)) → Is p v10 (Z p .neg (C .c7)) → Is p v11 (Z p .neg (C .c8)) → Is p v12 (Z p .neg (C .a0)) → IsCube e ((v0 ∷ 0 ∷ 0 ∷ v3 ∷ v4 ∷ 0 ∷ v6 ∷ v7 ∷ v8 ∷ v9 ∷ v10 ∷ v11 ∷ v12 ∷ []) ++ replicate 13 0)
+  pub cube-of :
+      {v0 v3 v4 v6 v7 v8 v9 v10 v11 v12 : ℕ} → Is p v0 (Z p .neg (C .c0)) → Is p v3 (Z p .neg (C .c1)) → Is p v4 (Z p .neg (C .c2)) →
+      Is p v6 (Z p .neg (C .c3)) → Is p v7 (Z p .neg (C .c4)) → Is p v8 (Z p .neg (C .c5)) → Is p v9 (Z p .neg (C .c6)) →
+      Is p v10 (Z p .neg (C .c7)) → Is p v11 (Z p .neg (C .c8)) → Is p v12 (Z p .neg (C .a0)) →
+      IsCube e ((v0 ∷ 0 ∷ 0 ∷ v3 ∷ v4 ∷ 0 ∷ v6 ∷ v7 ∷ v8 ∷ v9 ∷ v10 ∷ v11 ∷ v12 ∷ []) ++ replicate 13 0)
   cube-of {v0} {v3} {v4} {v6} {v7} {v8} {v9} {v10} {v11} {v12} i0 i3 i4 i6 i7 i8 i9 i10 i11 i12 =
-      record { vec = vec; top = padded-top ns 13; cube = record { is = at-ext C (λ i j l. element-at p C (ns ++ replicate 13 0) i j l ∙ padded-res p ns (vector-cube C) 13 match (pole i j) ∙ cube-at C i j l) } }
+      record
+      { vec = vec; top = padded-top ns 13; cube = record { is = at-ext C (λ i j l. element-at p C (ns ++ replicate 13 0) i j l ∙ padded-res p ns (vector-cube C) 13 match (pole i j) ∙ cube-at C i j l) } }
     where
       ns : List ℕ
       ns = v0 ∷ 0 ∷ 0 ∷ v3 ∷ v4 ∷ 0 ∷ v6 ∷ v7 ∷ v8 ∷ v9 ∷ v10 ∷ v11 ∷ v12 ∷ []
 
       vec : Vec p (ns ++ replicate 13 0)
-      vec = record { len = refl; below = padded-below p ns 13 positive (i0 .below, (positive, (positive, (i3 .below, (i4 .below, (positive, (i6 .below, (i7 .below, (i8 .below, (i9 .below, (i10 .below, (i11 .below, (i12 .below, tt))))))))))))); gap-1 = refl; gap-2 = refl; gap-5 = refl }
+      vec =
+          record
+          { len = refl; below = padded-below p ns 13 positive (i0 .below, (positive, (positive, (i3 .below, (i4 .below, (positive, (i6 .below, (i7 .below, (i8 .below, (i9 .below, (i10 .below, (i11 .below, (i12 .below, tt))))))))))))); gap-1 = refl; gap-2 = refl; gap-5 = refl }
 
       match : Match p ns (vector-cube C)
       match = (i0 .is, (el-zero p, (el-zero p, (i3 .is, (i4 .is, (el-zero p, (i6 .is, (i7 .is, (i8 .is, (i9 .is, (i10 .is, (i11 .is, (i12 .is, tt)))))))))))))
 
-  pub derivative-x-of : {v3 v6 v7 v v9 : ℕ} → Is p v3 (twice (Z p) (C .c3)) → Is p v6 (thrice (Z p) (C .c6)) → Is p v7 (twice (Z p) (C .c7)) → Is p v (twice (Z p) (C .a0)) → Is p v9 (twice (Z p) (el p v)) → DerivativeX e ((e .c1 ∷ 0 ∷ 0 ∷ v3 ∷ e .c4 ∷ 0 ∷ v6 ∷ v7 ∷ e .c8 ∷ v9 ∷ []) ++ replicate 16 0)
+  pub derivative-x-of :
+      {v3 v6 v7 v v9 : ℕ} → Is p v3 (twice (Z p) (C .c3)) → Is p v6 (thrice (Z p) (C .c6)) → Is p v7 (twice (Z p) (C .c7)) →
+      Is p v (twice (Z p) (C .a0)) → Is p v9 (twice (Z p) (el p v)) →
+      DerivativeX e ((e .c1 ∷ 0 ∷ 0 ∷ v3 ∷ e .c4 ∷ 0 ∷ v6 ∷ v7 ∷ e .c8 ∷ v9 ∷ []) ++ replicate 16 0)
   derivative-x-of {v3} {v6} {v7} {v} {v9} i3 i6 i7 i i9 =
       record { vec = vec; top = padded-top ns 16; value = element-is C (derivative-x C) vec (λ n. padded-res p ns (vector-x C) 16 match n ∙ sym (coefficient-derivative-x C n)) }
     where
@@ -177,12 +187,16 @@ module _ (e : Equation) (h : Coefficients e) where
       ns = e .c1 ∷ 0 ∷ 0 ∷ v3 ∷ e .c4 ∷ 0 ∷ v6 ∷ v7 ∷ e .c8 ∷ v9 ∷ []
 
       vec : Vec p (ns ++ replicate 16 0)
-      vec = record { len = refl; below = padded-below p ns 16 positive (h .below-c1, (positive, (positive, (i3 .below, (h .below-c4, (positive, (i6 .below, (i7 .below, (h .below-c8, (i9 .below, tt)))))))))); gap-1 = refl; gap-2 = refl; gap-5 = refl }
+      vec =
+          record
+          { len = refl; below = padded-below p ns 16 positive (h .below-c1, (positive, (positive, (i3 .below, (h .below-c4, (positive, (i6 .below, (i7 .below, (h .below-c8, (i9 .below, tt)))))))))); gap-1 = refl; gap-2 = refl; gap-5 = refl }
 
       match : Match p ns (vector-x C)
       match = (refl, (el-zero p, (el-zero p, (i3 .is, (refl, (el-zero p, (i6 .is, (i7 .is, (refl, (i9 .is ∙ ap (twice (Z p)) (i .is), tt))))))))))
 
-  pub derivative-y-of : {v4 v7 v8 : ℕ} → Is p v4 (twice (Z p) (C .c5)) → Is p v7 (twice (Z p) (C .c8)) → Is p v8 (thrice (Z p) (el p 1)) → DerivativeY e ((e .c2 ∷ 0 ∷ 0 ∷ e .c4 ∷ v4 ∷ 0 ∷ e .c7 ∷ v7 ∷ v8 ∷ []) ++ replicate 17 0)
+  pub derivative-y-of :
+      {v4 v7 v8 : ℕ} → Is p v4 (twice (Z p) (C .c5)) → Is p v7 (twice (Z p) (C .c8)) → Is p v8 (thrice (Z p) (el p 1)) →
+      DerivativeY e ((e .c2 ∷ 0 ∷ 0 ∷ e .c4 ∷ v4 ∷ 0 ∷ e .c7 ∷ v7 ∷ v8 ∷ []) ++ replicate 17 0)
   derivative-y-of {v4} {v7} {v8} i4 i7 i8 =
       record { vec = vec; top = padded-top ns 17; value = element-is C (derivative-y C) vec (λ n. padded-res p ns (vector-y C) 17 match n ∙ sym (coefficient-derivative-y C n)) }
     where
@@ -190,7 +204,9 @@ module _ (e : Equation) (h : Coefficients e) where
       ns = e .c2 ∷ 0 ∷ 0 ∷ e .c4 ∷ v4 ∷ 0 ∷ e .c7 ∷ v7 ∷ v8 ∷ []
 
       vec : Vec p (ns ++ replicate 17 0)
-      vec = record { len = refl; below = padded-below p ns 17 positive (h .below-c2, (positive, (positive, (h .below-c4, (i4 .below, (positive, (h .below-c7, (i7 .below, (i8 .below, tt))))))))); gap-1 = refl; gap-2 = refl; gap-5 = refl }
+      vec =
+          record
+          { len = refl; below = padded-below p ns 17 positive (h .below-c2, (positive, (positive, (h .below-c4, (i4 .below, (positive, (h .below-c7, (i7 .below, (i8 .below, tt))))))))); gap-1 = refl; gap-2 = refl; gap-5 = refl }
 
       match : Match p ns (vector-y C)
       match = (refl, (el-zero p, (el-zero p, (refl, (i4 .is, (el-zero p, (refl, (i7 .is, (i8 .is ∙ ap (thrice (Z p)) (el-one p), tt)))))))))

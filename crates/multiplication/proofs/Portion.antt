@@ -99,7 +99,9 @@ module _ (p : ℕ) (C : Curve (Z p)) (v : List ℕ) where
     portion-same f g =
         vector-same C (kept S d) (length v) (kept-past S d) (kept S′ d′) (length v) (kept-past S′ d′) (λ n q. choose-both (d n) (d′ n) _ _ (f n q) (g n q))
 
-    pub portion-step : (i j : ℕ) → j ≤ 2 → ¬ S (pole i j) → S′ (pole i j) → ((n : ℕ) → S n → S′ n) → ((n : ℕ) → ¬ (n ≡ pole i j) → S′ n → S n) → portion S′ d′ ≡ portion S d ⊕ scalar p C (at v (pole i j)) ⊗ (x-to p C i ⊗ y-to p C j)
+    pub portion-step :
+        (i j : ℕ) → j ≤ 2 → ¬ S (pole i j) → S′ (pole i j) → ((n : ℕ) → S n → S′ n) → ((n : ℕ) → ¬ (n ≡ pole i j) → S′ n → S n) →
+        portion S′ d′ ≡ portion S d ⊕ scalar p C (at v (pole i j)) ⊗ (x-to p C i ⊗ y-to p C j)
     unfolding portion kept
     portion-step i j l h h′ f g =
         vector-step C (kept S d) (length v) (kept-past S d) (kept S′ d′) (length v) (kept-past S′ d′) i j l (choose-no (d (pole i j)) _ _ h) (λ n q e. choose-both (d′ n) (d n) _ _ (g n e) (f n))

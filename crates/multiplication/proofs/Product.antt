@@ -42,7 +42,10 @@ part-start {p} {e} {top} {b} {ys} h =
     record {
       vec = zeros-vec p (omega (arith, h .b-vec .below 0));
       top-out = λ n l. zeros-at 26 n;
-      value = λ C g o. element-zero p C (replicate 26 0) (λ n l. zeros-at 26 n) ∙ sym (L.zero-mul (Coordinate C) g) ∙ ap (λ u. Coordinate C .mul u g) (sym (portion-none p C b (First 0) (first 0) (λ n l. omega arith)));
+      value =
+          λ C g o. element-zero p C (replicate 26 0) (λ n l. zeros-at 26 n)
+          ∙ sym (L.zero-mul (Coordinate C) g)
+          ∙ ap (λ u. Coordinate C .mul u g) (sym (portion-none p C b (First 0) (first 0) (λ n l. omega arith)));
     }
 
 gap-of : (n : ℕ) → n < 4 * (n % 3) → IsGap n
@@ -89,9 +92,11 @@ module _ {p e top n : ℕ} {b : List ℕ} {ys : List (List ℕ)} {r : List ℕ} 
           here : pole i (n % 3) ≡ n
           here = omega arith
 
-          step : portion p C b (First (n + 1)) (first (n + 1)) ≡ Coordinate C .add (portion p C b (First n) (first n)) (Coordinate C .mul (scalar p C (at b n)) (Coordinate C .mul (x-to p C i) (y-to p C (n % 3))))
+          step :
+              portion p C b (First (n + 1)) (first (n + 1)) ≡ Coordinate C .add (portion p C b (First n) (first n)) (Coordinate C .mul (scalar p C (at b n)) (Coordinate C .mul (x-to p C i) (y-to p C (n % 3))))
           step =
-              portion-step p C b (First n) (first n) (First (n + 1)) (first (n + 1)) i (n % 3) (omega arith) (omega (arith, here)) (omega (arith, here)) (λ m k. omega arith) (λ m d k. omega (arith, here))
+              portion-step p C b (First n) (first n) (First (n + 1)) (first (n + 1)) i (n % 3) (omega arith) (omega (arith, here))
+              (omega (arith, here)) (λ m k. omega arith) (λ m d k. omega (arith, here))
               ∙ ap (λ m. Coordinate C .add (portion p C b (First n) (first n)) (Coordinate C .mul (scalar p C (at b m)) (Coordinate C .mul (x-to p C i) (y-to p C (n % 3))))) here
 
   pub part-skip : n < 4 * (n % 3) → TimesPart p b (n + 1) ys top r
@@ -99,7 +104,9 @@ module _ {p e top n : ℕ} {b : List ℕ} {ys : List (List ℕ)} {r : List ℕ} 
       record {
         vec = t .vec;
         top-out = λ m k. t .top-out m (omega arith);
-        value = λ C g o. t .value C g o ∙ ap (λ u. Coordinate C .mul u g) (portion-same p C b (First n) (first n) (First (n + 1)) (first (n + 1)) (λ m w k. omega arith) (λ m w k. below m w k (ℕ-discrete m n)));
+        value =
+            λ C g o. t .value C g o
+            ∙ ap (λ u. Coordinate C .mul u g) (portion-same p C b (First n) (first n) (First (n + 1)) (first (n + 1)) (λ m w k. omega arith) (λ m w k. below m w k (ℕ-discrete m n)));
       }
     where
       below : (m : ℕ) → IsPole m → m < n + 1 → Dec (m ≡ n) → m < n

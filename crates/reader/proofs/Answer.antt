@@ -3,22 +3,20 @@
 --   below-at, at-below    all numbers of a list are below p
 --   nine               what holds of 0 to 8 holds of each i below 9
 --   written-bytes      what is written is the record of the value
+--   written-out        what write_divisor leaves, by the record's own length
 use mathlib.Core.Path.{_≡_, refl, sym, ap, ap₂, _∙_}
-use mathlib.Core.Bool.{Bool, true, false}
-use mathlib.Core.Logic.{inl, inr}
 use mathlib.Core.List.{List, [], _∷_, _++_}
 use Prim.Native.Nat.{ℕ, zero, suc, _+_, _*_, _<_}
 use native.Mathlib.Omega.{arith}
 use lib.ListN.{length, getD, take, drop}
-use Rattle.divisor.specs.Kind.{Kind, k0, k11, k21, k22, k31, code, count, size}
+use Rattle.divisor.specs.Kind.{Kind, code, count, size}
 use Rattle.basis.specs.Divisor.{numbers}
 use Rattle.basis.specs.declared.Divisor.{Divisor}
 use Rattle.layout.specs.Layout.{record-bytes}
 use Rattle.record.specs.Cause.{Stage, FirstCause, Passes}
-use Rattle.reader.specs.Contract.{Checked, AllBelow}
+use Rattle.reader.specs.Contract.{Checked, AllBelow, Written}
 use Rattle.record.specs.Value.{bytes-of}
-use Rattle.record.proofs.Cause.{passes-append, first-append}
-use Rattle.divisor.proofs.Codes.{code-injective}
+use Rattle.record.proofs.Written.{length-bytes-of}
 
 module _ {ss : List Stage} where
   pub checked-none : Passes ss → Checked ss 0
@@ -53,3 +51,9 @@ pub written-bytes : (r : Divisor) (κ : Kind) (kind n : ℕ) (out out′ : List 
 unfolding bytes-of
 written-bytes r κ kind n out out′ e f h =
     h ∙ ap₂ (λ (a b : ℕ). record-bytes a (take b (numbers r)) ++ drop (4 + 4 * b) out) e f
+
+pub written-out : (r : Divisor) (out out′ : List ℕ) (n : ℕ) (κ : Kind) → Written r out out′ n κ
+    → (n ≡ length (bytes-of κ r)) × (out′ ≡ bytes-of κ r ++ drop (length (bytes-of κ r)) out)
+written-out r out out′ n κ w =
+    let e = length-bytes-of κ r in
+    (w .long ∙ sym e, w .bytes ∙ ap (λ (m : ℕ). bytes-of κ r ++ drop m out) (sym e))

@@ -40,7 +40,9 @@ module _ {R : CommRing} (P : Poles R) where
 pub record Putting (p : ℕ) (t₁ ys t t′ : List (List ℕ)) (d′ : List ℕ) (i : ℕ) : Type 0 where
   pub bound : i ≤ 3
   pub triple : Triple p t′ d′
-  pub same : (S : Setting p) (g : ring S .Car) → RowsOf p (S .curve) ys g → SameIdeal (ring S) (Spanned S t′) (Span (poles-of S) (listed (λ i. ring S .mul (element p (S .curve) (row t₁ i)) g) i (elements S t)))
+  pub same :
+      (S : Setting p) (g : ring S .Car) → RowsOf p (S .curve) ys g →
+      SameIdeal (ring S) (Spanned S t′) (Span (poles-of S) (listed (λ i. ring S .mul (element p (S .curve) (row t₁ i)) g) i (elements S t)))
 
 module _ {p top : ℕ} {t₁ : List (List ℕ)} {d₁ : List ℕ} {ys t : List (List ℕ)} {d : List ℕ} (h : PutAsked p t₁ d₁ ys top t d) where
   pub put-start : Putting p t₁ ys t t d 0
@@ -67,7 +69,9 @@ module _ {p top : ℕ} {t₁ : List (List ℕ)} {d₁ : List ℕ} {ys t : List (
       pub put-more : {t″ : List (List ℕ)} {d″ : List ℕ} → Inserted p t′ d′ v t″ d″ → Putting p t₁ ys t t″ d″ (i + 1)
       put-more {t″} {d″} r = subst (Putting p t₁ ys t t″ d″) (sym (add-one i)) (record { bound = l; triple = r .triple; same = same })
         where
-          same : (S : Setting p) (g : ring S .Car) → RowsOf p (S .curve) ys g → SameIdeal (ring S) (Spanned S t″) (Span (poles-of S) (listed (λ i. ring S .mul (element p (S .curve) (row t₁ i)) g) (suc i) (elements S t)))
+          same :
+              (S : Setting p) (g : ring S .Car) → RowsOf p (S .curve) ys g →
+              SameIdeal (ring S) (Spanned S t″) (Span (poles-of S) (listed (λ i. ring S .mul (element p (S .curve) (row t₁ i)) g) (suc i) (elements S t)))
           same S g o =
               subst (λ u. SameIdeal (ring S) (Spanned S t″) (Span (poles-of S) (u ∷ listed (λ i. ring S .mul (element p (S .curve) (row t₁ i)) g) i (elements S t)))) (m .value (S .curve) g o)
               (same-trans (ring S) (r .same S) (span-cons (poles-of S) (elements S t′) (listed (λ i. ring S .mul (element p (S .curve) (row t₁ i)) g) i (elements S t)) (element p (S .curve) v) (q .same S g o)))
@@ -114,7 +118,9 @@ module _ {p : ℕ} {f : List ℕ} {t₁ : List (List ℕ)} {d₁ : List ℕ} {t�
       multiply-more {t′} {d′} r = subst (Multiplying p f t₁ t₂ t′ d′) (sym (add-one j)) (record { bound = l; triple = r .triple; same = same })
         where
           same : (R : Ready p f) → SameIdeal (ring (R .setting)) (Spanned (R .setting) t′) (Span (poles-of (R .setting)) (outer (R .setting) t₁ t₂ (suc j)))
-          same R = same-trans (ring S) (r .same S (element p (S .curve) (row t₂ j)) (m .value (S .curve) (R .cube))) (listed-same (poles-of S) (λ i. ring S .mul (element p (S .curve) (row t₁ i)) (element p (S .curve) (row t₂ j))) 3 (elements S t) (outer S t₁ t₂ j) (q .same R))
+          same R =
+              same-trans (ring S) (r .same S (element p (S .curve) (row t₂ j)) (m .value (S .curve) (R .cube)))
+              (listed-same (poles-of S) (λ i. ring S .mul (element p (S .curve) (row t₁ i)) (element p (S .curve) (row t₂ j))) 3 (elements S t) (outer S t₁ t₂ j) (q .same R))
             where
               S : Setting p
               S = R .setting
@@ -146,12 +152,17 @@ module _ {p : ℕ} (S : Setting p) (t₁ t₂ : List (List ℕ)) (len₁ : lengt
       each = products-source (ring S) (Span (poles-of S) all) (elements S t₁) (elements S t₂) (span-each (poles-of S) all)
 
       there : Every (Span (poles-of S) all) (outer S t₁ t₂ 3)
-      there = outer-each S t₁ t₂ (Span (poles-of S) all) 3 (λ j i k l. row-each S (λ b. Span (poles-of S) all (ring S .mul (element p (S .curve) (row t₁ i)) b)) t₂ (row-each S (λ a. Every (λ b. Span (poles-of S) all (ring S .mul a b)) (elements S t₂)) t₁ each i (omega arith)) j (omega arith))
+      there =
+          outer-each S t₁ t₂ (Span (poles-of S) all) 3
+          (λ j i k l. row-each S (λ b. Span (poles-of S) all (ring S .mul (element p (S .curve) (row t₁ i)) b)) t₂ (row-each S (λ a. Every (λ b. Span (poles-of S) all (ring S .mul a b)) (elements S t₂)) t₁ each i (omega arith)) j (omega arith))
 
       back : Every (Span (poles-of S) (outer S t₁ t₂ 3)) all
-      back = every-products (poles-of S) (Span (poles-of S) (outer S t₁ t₂ 3)) (elements S t₁) (elements S t₂) (each-row S (λ a. Every (λ b. Span (poles-of S) (outer S t₁ t₂ 3) (ring S .mul a b)) (elements S t₂)) t₁ (λ i l. each-row S (λ b. Span (poles-of S) (outer S t₁ t₂ 3) (ring S .mul (element p (S .curve) (row t₁ i)) b)) t₂ (λ j k. outer-at S t₁ t₂ (Span (poles-of S) (outer S t₁ t₂ 3)) 3 (span-each (poles-of S) (outer S t₁ t₂ 3)) j i (omega arith) (omega arith))))
+      back =
+          every-products (poles-of S) (Span (poles-of S) (outer S t₁ t₂ 3)) (elements S t₁) (elements S t₂)
+          (each-row S (λ a. Every (λ b. Span (poles-of S) (outer S t₁ t₂ 3) (ring S .mul a b)) (elements S t₂)) t₁ (λ i l. each-row S (λ b. Span (poles-of S) (outer S t₁ t₂ 3) (ring S .mul (element p (S .curve) (row t₁ i)) b)) t₂ (λ j k. outer-at S t₁ t₂ (Span (poles-of S) (outer S t₁ t₂ 3)) 3 (span-each (poles-of S) (outer S t₁ t₂ 3)) j i (omega arith) (omega arith))))
 
-module _ {p j : ℕ} {f : List ℕ} {t₁ : List (List ℕ)} {d₁ : List ℕ} {t₂ : List (List ℕ)} {d₂ : List ℕ} {t : List (List ℕ)} {d : List ℕ} (h : ProductAsked p f t₁ d₁ t₂ d₂) (q : Multiplying p f t₁ t₂ t d j) (end : 3 ≤ j) where
+module _ {p j : ℕ} {f : List ℕ} {t₁ : List (List ℕ)} {d₁ : List ℕ} {t₂ : List (List ℕ)} {d₂ : List ℕ} {t : List (List ℕ)} {d : List ℕ}
+    (h : ProductAsked p f t₁ d₁ t₂ d₂) (q : Multiplying p f t₁ t₂ t d j) (end : 3 ≤ j) where
   done : Multiplying p f t₁ t₂ t d 3
   done = subst (Multiplying p f t₁ t₂ t d) {x = j} {y = 3} (omega (arith, q .bound)) q
 
@@ -163,10 +174,14 @@ module _ {p j : ℕ} {f : List ℕ} {t₁ : List (List ℕ)} {d₁ : List ℕ} {
       S = h .ready .setting
 
       pole : HasPole (poles-of S) (ring S .mul (element p (S .curve) (row t₁ i)) (element p (S .curve) (row t₂ 0))) (at d₁ i + at d₂ 0)
-      pole = pole-mul (poles-of S) (monic-pole (poles-of S) (present-monic S (h .full₁ .triple .member i l .vec) (h .full₁ .present i l))) (monic-pole (poles-of S) (present-monic S (h .full₂ .triple .member 0 (omega arith) .vec) (h .full₂ .present 0 (omega arith))))
+      pole =
+          pole-mul (poles-of S) (monic-pole (poles-of S) (present-monic S (h .full₁ .triple .member i l .vec) (h .full₁ .present i l)))
+          (monic-pole (poles-of S) (present-monic S (h .full₂ .triple .member 0 (omega arith) .vec) (h .full₂ .present 0 (omega arith))))
 
       inside : Spanned S t (ring S .mul (element p (S .curve) (row t₁ i)) (element p (S .curve) (row t₂ 0)))
       inside = done .same (h .ready) _ .1 (outer-at S t₁ t₂ (Span (poles-of S) (outer S t₁ t₂ 3)) 3 (span-each (poles-of S) (outer S t₁ t₂ 3)) 0 i (omega arith) l)
 
   pub multiply-end : Multiplied p f t₁ t₂ t d
-  multiply-end = record { full = full-of (q .triple) filled; same = λ R. same-trans (ring (R .setting)) (done .same R) (outer-product (R .setting) t₁ t₂ (h .full₁ .triple .len-t) (h .full₂ .triple .len-t)) }
+  multiply-end =
+      record
+      { full = full-of (q .triple) filled; same = λ R. same-trans (ring (R .setting)) (done .same R) (outer-product (R .setting) t₁ t₂ (h .full₁ .triple .len-t) (h .full₂ .triple .len-t)) }

@@ -46,7 +46,8 @@ module _ {p n d : ℕ} {v b v′ : List ℕ} (h : ClearAsked p v n b d) (c : Cle
       sym (element-coefficient p C (h .v-vec) m)
       ∙ ap (coefficient C m) (c .value C)
       ∙ coefficient-add C m _ _
-      ∙ ap₂ (Z p .add) (element-coefficient p C (c .vec) m) (ap (coefficient C m) (Coordinate C .mul-assoc _ _ _) ∙ coefficient-constant-mul C m (el p (at v n)) _ ∙ ap (Z p .mul (el p (at v n))) (shift-high C ((n - d) / 3) i (element p C b) ∙ element-coefficient p C (h .b-vec) i))
+      ∙ ap₂ (Z p .add) (element-coefficient p C (c .vec) m)
+      (ap (coefficient C m) (Coordinate C .mul-assoc _ _ _) ∙ coefficient-constant-mul C m (el p (at v n)) _ ∙ ap (Z p .mul (el p (at v n))) (shift-high C ((n - d) / 3) i (element p C b) ∙ element-coefficient p C (h .b-vec) i))
     where
       m : ℕ
       m = 3 * ((n - d) / 3) + i
@@ -118,10 +119,14 @@ module _ {p n m : ℕ} {t : List (List ℕ)} {d v v′ : List ℕ} (h : Reducing
       normal i k b r (yes q) = ap (at v″) q ∙ cleared-here (reduce-asked l) c
       normal i k b r (no q) = cleared-above (reduce-asked l) c i (omega arith) ∙ h .normal i (omega arith) b r
 
-      coset : (S : Setting p) → (s : ring S .Car) × Spanned S t s × (element p (S .curve) v ≡ ring S .add (element p (S .curve) v′) s) → (s : ring S .Car) × Spanned S t s × (element p (S .curve) v ≡ ring S .add (element p (S .curve) v″) s)
+      coset :
+          (S : Setting p) → (s : ring S .Car) × Spanned S t s × (element p (S .curve) v ≡ ring S .add (element p (S .curve) v′) s) →
+          (s : ring S .Car) × Spanned S t s × (element p (S .curve) v ≡ ring S .add (element p (S .curve) v″) s)
       coset S (s, i, q) = (
         ring S .add u s,
-        span-sum (poles-of S) (elements S t) u s (span-times (poles-of S) (elements S t) (inx-mul (poles-of S) (constant-in S _) (x-to-in S _)) _ (spanned-row S t (m % 3) (omega (arith, h .triple .len-t)))) i,
+        span-sum (poles-of S) (elements S t) u s
+            (span-times (poles-of S) (elements S t) (inx-mul (poles-of S) (constant-in S _) (x-to-in S _)) _ (spanned-row S t (m % 3) (omega (arith, h .triple .len-t))))
+            i,
         q ∙ ap (λ g. ring S .add g s) (c .value (S .curve)) ∙ ring S .add-assoc _ _ _,
       )
         where

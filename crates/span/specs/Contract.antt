@@ -54,7 +54,9 @@ pub record Open (p : ℕ) (f : List ℕ) (t : List (List ℕ)) (d : List ℕ) (R
   pub normal : (n : ℕ) → at d (n % 3) ≤ n → coefficient (R .setting .curve) n rest ≡ Z p .zero
 
 pub record ClosedTest (p : ℕ) (f : List ℕ) (t : List (List ℕ)) (d : List ℕ) (r : Bool) : Type 0 where
-  pub yes-closed : r ≡ true → (R : Ready p f) (j : ℕ) → j < 3 → Spanned (R .setting) t (ring (R .setting) .mul (y (R .setting .curve)) (element p (R .setting .curve) (row t j)))
+  pub yes-closed :
+      r ≡ true → (R : Ready p f) (j : ℕ) → j < 3 →
+      Spanned (R .setting) t (ring (R .setting) .mul (y (R .setting .curve)) (element p (R .setting .curve) (row t j)))
   pub no-closed : r ≡ false → (R : Ready p f) → Open p f t d R
 
 pub record AtAsked (p : ℕ) (f : List ℕ) (t : List (List ℕ)) (d : List ℕ) (j : ℕ) : Type 0 where
@@ -74,7 +76,9 @@ pub record ProductAsked (p : ℕ) (f : List ℕ) (t₁ : List (List ℕ)) (d₁ 
 
 pub record Multiplied (p : ℕ) (f : List ℕ) (t₁ t₂ t : List (List ℕ)) (d : List ℕ) : Type 0 where
   pub full : Full p t d
-  pub same : (R : Ready p f) → SameIdeal (ring (R .setting)) (Spanned (R .setting) t) (Product (ring (R .setting)) (Spanned (R .setting) t₁) (Spanned (R .setting) t₂))
+  pub same :
+      (R : Ready p f) →
+      SameIdeal (ring (R .setting)) (Spanned (R .setting) t) (Product (ring (R .setting)) (Spanned (R .setting) t₁) (Spanned (R .setting) t₂))
 
 pub record PutAsked (p : ℕ) (t₁ : List (List ℕ)) (d₁ : List ℕ) (ys : List (List ℕ)) (top : ℕ) (t : List (List ℕ)) (d : List ℕ) : Type 0 where
   pub prime : Prime p
@@ -86,4 +90,6 @@ pub record PutAsked (p : ℕ) (t₁ : List (List ℕ)) (d₁ : List ℕ) (ys : L
 
 pub record Put (p : ℕ) (t₁ ys t t′ : List (List ℕ)) (d′ : List ℕ) : Type 0 where
   pub triple : Triple p t′ d′
-  pub same : (S : Setting p) (g : ring S .Car) → RowsOf p (S .curve) ys g → SameIdeal (ring S) (Spanned S t′) (Span (poles-of S) (listed (λ i. ring S .mul (element p (S .curve) (row t₁ i)) g) 3 (elements S t)))
+  pub same :
+      (S : Setting p) (g : ring S .Car) → RowsOf p (S .curve) ys g →
+      SameIdeal (ring S) (Spanned S t′) (Span (poles-of S) (listed (λ i. ring S .mul (element p (S .curve) (row t₁ i)) g) 3 (elements S t)))

@@ -65,7 +65,9 @@ module _ {p : ℕ} (S : Setting p) {v : List ℕ} (h : Vec p v) where
   element-zero t = poles-of S .below-none (element-below t)
 
   pub element-pole : {m : ℕ} → Top v (suc m) → 0 < at v m → HasPole (poles-of S) (element p (S .curve) v) m
-  element-pole {m} t l = coefficient-has-pole (F p (S .prime)) (S .curve) (S .nonzero) (λ e. el-pos p (at v m) l (h .below m) (sym (element-coefficient p (S .curve) h m) ∙ e)) (λ n u. coefficient-zero (S .curve) h n (t n u))
+  element-pole {m} t l =
+      coefficient-has-pole (F p (S .prime)) (S .curve) (S .nonzero)
+      (λ e. el-pos p (at v m) l (h .below m) (sym (element-coefficient p (S .curve) h m) ∙ e)) (λ n u. coefficient-zero (S .curve) h n (t n u))
 
   el-none : {n : ℕ} → n < p → el p n ≡ Z p .zero → n ≡ 0
   el-none {n} b e = el-inj p n 0 b (omega arith) (e ∙ sym (el-zero p))
@@ -77,4 +79,6 @@ module _ {p : ℕ} (S : Setting p) {v : List ℕ} (h : Vec p v) where
       go (a, b) = (lt-of-ne (at v m) (λ e. a (coefficient-zero (S .curve) h m e)), λ n l. el-none (h .below n) (sym (element-coefficient p (S .curve) h n) ∙ b n l))
 
   pub present-monic : {j d : ℕ} → Present v j d → Monic (poles-of S) (element p (S .curve) v) d
-  present-monic {j} {d} q = coefficient-monic (F p (S .prime)) (S .curve) (S .nonzero) (lead-pole h d (omega (arith, q .monic))) (element-coefficient p (S .curve) h d ∙ ap (el p) (q .monic) ∙ el-one p) (λ n l. coefficient-zero (S .curve) h n (q .top n l))
+  present-monic {j} {d} q =
+      coefficient-monic (F p (S .prime)) (S .curve) (S .nonzero) (lead-pole h d (omega (arith, q .monic)))
+      (element-coefficient p (S .curve) h d ∙ ap (el p) (q .monic) ∙ el-one p) (λ n l. coefficient-zero (S .curve) h n (q .top n l))

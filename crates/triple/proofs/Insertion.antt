@@ -63,7 +63,10 @@ module _ {p n : ℕ} {t : List (List ℕ)} {d v : List ℕ} {t′ : List (List �
 
   -- without v, which is zero
   spanned : n ≡ 0 → (S : Setting p) → SameIdeal (ring S) (Spanned S t′) (Span (poles-of S) (element p (S .curve) v ∷ elements S t))
-  spanned e S = same-trans (ring S) (span-same (poles-of S) (elements S t′) (element p (S .curve) v′ ∷ elements S t′) (every-map (span-rest (poles-of S) _ (elements S t′)) (elements S t′) each) (subst (Spanned S t′) (sym gone) (span-nil (poles-of S) (elements S t′)), each)) (h .same S)
+  spanned e S =
+      same-trans (ring S)
+      (span-same (poles-of S) (elements S t′) (element p (S .curve) v′ ∷ elements S t′) (every-map (span-rest (poles-of S) _ (elements S t′)) (elements S t′) each) (subst (Spanned S t′) (sym gone) (span-nil (poles-of S) (elements S t′)), each))
+      (h .same S)
     where
       each : Every (Spanned S t′) (elements S t′)
       each = span-each (poles-of S) (elements S t′)
@@ -85,4 +88,6 @@ module _ {p n : ℕ} {t : List (List ℕ)} {d v : List ℕ} {t′ : List (List �
         where
           go : Present (row t j) j (at d j) ⊎ Absent (row t j) (at d j) → at d′ j ≤ at d j
           go (inr q) = omega (arith, degree-most (h .triple) j l, q .none)
-          go (inl q) = subst (λ i. at d′ i ≤ at d j) (q .class) (spanned-lead S (h .triple) (spanned e S _ .1 (beside-row S (element p (S .curve) v) t j (omega (arith, h .old .len-t)))) (monic-pole (poles-of S) (present-monic S (h .old .member j l .vec) q)) .0)
+          go (inl q) =
+              subst (λ i. at d′ i ≤ at d j) (q .class)
+              (spanned-lead S (h .triple) (spanned e S _ .1 (beside-row S (element p (S .curve) v) t j (omega (arith, h .old .len-t)))) (monic-pole (poles-of S) (present-monic S (h .old .member j l .vec) q)) .0)

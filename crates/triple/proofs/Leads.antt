@@ -120,13 +120,17 @@ module _ {p : ℕ} (S : Setting p) {t : List (List ℕ)} {d : List ℕ} (T : Tri
       go (inr (k, h′, q)) = subst (λ i. (at d (i % 3) ≤ i) × (at d (i % 3) < width)) (pole-unique P h′ h) (q .reached, q .present)
 
   pub triple-lead : (n : ℕ) → at d (n % 3) < width → at d (n % 3) ≤ n → Lead P (Spanned S t) n
-  triple-lead n l h = subst (Lead P (Spanned S t)) (omega (arith, q .class)) (x-lead P (span-x P (elements S t)) ((n - at d (n % 3)) / 3) (el (row t (n % 3)), spanned-row S t (n % 3) (omega (arith, T .len-t)), member-pole (n % 3) (omega arith) q))
+  triple-lead n l h =
+      subst (Lead P (Spanned S t)) (omega (arith, q .class))
+      (x-lead P (span-x P (elements S t)) ((n - at d (n % 3)) / 3) (el (row t (n % 3)), spanned-row S t (n % 3) (omega (arith, T .len-t)), member-pole (n % 3) (omega arith) q))
     where
       q : Present (row t (n % 3)) (n % 3) (at d (n % 3))
       q = present-of T (n % 3) (omega arith) l
 
   pub whole-all : Whole d → (g : Car) → Spanned S t g
-  whole-all w g = lowering P {I′ = λ _. Unit} (span-space P (elements S t)) (record { nil = tt; sum = λ m n. tt; scale = λ k m. tt }) (λ g m. tt) (λ n (u, m, k). lead n (pole-number P k) (n % 3) refl) g tt
+  whole-all w g =
+      lowering P {I′ = λ _. Unit} (span-space P (elements S t)) (record { nil = tt; sum = λ m n. tt; scale = λ k m. tt }) (λ g m. tt)
+      (λ n (u, m, k). lead n (pole-number P k) (n % 3) refl) g tt
     where
       lead : (n : ℕ) → IsPole n → (j : ℕ) → n % 3 ≡ j → Lead P (Spanned S t) n
       lead n k zero e = triple-lead n (subst (λ i. at d i < width) (sym e) (omega (arith, w .zeroth))) (subst (λ i. at d i ≤ n) (sym e) (omega (arith, w .zeroth)))

@@ -33,7 +33,9 @@ module _ {A : Type 0} (Q : A → Type 0) (f : ℕ → A) where
 
 module _ {R : CommRing} (P : Poles R) where
   pub span-cons : (bs cs : List (R .Car)) (u : R .Car) → SameIdeal R (Span P bs) (Span P cs) → SameIdeal R (Span P (u ∷ bs)) (Span P (u ∷ cs))
-  span-cons bs cs u e = span-same P (u ∷ bs) (u ∷ cs) (span-first P u cs, every-map (λ b m. span-rest P u cs b (e b .0 m)) bs (span-each P bs)) (span-first P u bs, every-map (λ c m. span-rest P u bs c (e c .1 m)) cs (span-each P cs))
+  span-cons bs cs u e =
+      span-same P (u ∷ bs) (u ∷ cs) (span-first P u cs, every-map (λ b m. span-rest P u cs b (e b .0 m)) bs (span-each P bs))
+      (span-first P u bs, every-map (λ c m. span-rest P u bs c (e c .1 m)) cs (span-each P cs))
 
   pub listed-same : (f : ℕ → R .Car) (n : ℕ) (bs cs : List (R .Car)) → SameIdeal R (Span P bs) (Span P cs) → SameIdeal R (Span P (listed f n bs)) (Span P (listed f n cs))
   listed-same f zero bs cs e = e

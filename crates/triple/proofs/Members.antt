@@ -117,7 +117,9 @@ module _ {p : ℕ} (S : Setting p) where
     short : (i : ℕ) → i < length (set t j u) → i < length t
     short i h = omega (arith, length-set t j u)
 
-    pub swap-same : {c c′ : Car} → InX P c → InX P c′ → el u ≡ setting.ring S .mul c (el v) → el v ≡ setting.ring S .mul c′ (el u) → SameIdeal (setting.ring S) (Span P (el (row t j) ∷ elements S (set t j u))) (Span P (el v ∷ elements S t))
+    pub swap-same :
+        {c c′ : Car} → InX P c → InX P c′ → el u ≡ setting.ring S .mul c (el v) → el v ≡ setting.ring S .mul c′ (el u) →
+        SameIdeal (setting.ring S) (Span P (el (row t j) ∷ elements S (set t j u))) (Span P (el v ∷ elements S t))
     swap-same i i′ e e′ = span-same P new old (beside-row (el v) t j inside, each-row (Span P old) (set t j u) there) (lead, each-row (Span P new) t back)
       where
         new : List Car

@@ -44,8 +44,13 @@ turn-none {v = v} h e =
     }
 
 -- v less a multiple of a member
-pub cleared-same : {p n d : ℕ} (t : List (List ℕ)) (j : ℕ) {v v′ : List ℕ} → j < length t → Cleared p v n (row t j) d v′ → (S : Setting p) → SameIdeal (ring S) (Span (poles-of S) (element p (S .curve) v′ ∷ elements S t)) (Span (poles-of S) (element p (S .curve) v ∷ elements S t))
-cleared-same {p} {n} {d} t j {v} {v′} h c S = span-shift (poles-of S) (elements S t) (span-times (poles-of S) (elements S t) (inx-mul (poles-of S) (constant-in S _) (x-to-in S ((n - d) / 3))) (element p (S .curve) (row t j)) (spanned-row S t j h)) (c .value (S .curve))
+pub cleared-same :
+    {p n d : ℕ} (t : List (List ℕ)) (j : ℕ) {v v′ : List ℕ} → j < length t → Cleared p v n (row t j) d v′ → (S : Setting p) →
+    SameIdeal (ring S) (Span (poles-of S) (element p (S .curve) v′ ∷ elements S t)) (Span (poles-of S) (element p (S .curve) v ∷ elements S t))
+cleared-same {p} {n} {d} t j {v} {v′} h c S =
+    span-shift (poles-of S) (elements S t)
+    (span-times (poles-of S) (elements S t) (inx-mul (poles-of S) (constant-in S _) (x-to-in S ((n - d) / 3))) (element p (S .curve) (row t j)) (spanned-row S t j h))
+    (c .value (S .curve))
 
 module _ {p m : ℕ} {t : List (List ℕ)} {d v : List ℕ} (h : TurnAsked p t d v m) where
   abbrev j : ℕ

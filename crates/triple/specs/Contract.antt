@@ -51,7 +51,9 @@ pub record Turned (p : ℕ) (t : List (List ℕ)) (d v : List ℕ) (m : ℕ) (t�
   pub v-top : Top v′ n
   pub room : n ≤ width
   pub falls : degrees d′ + n ≤ degrees d + m
-  pub same : (S : Setting p) → SameIdeal (ring S) (Span (poles-of S) (element p (S .curve) v′ ∷ elements S t′)) (Span (poles-of S) (element p (S .curve) v ∷ elements S t))
+  pub same :
+      (S : Setting p) →
+      SameIdeal (ring S) (Span (poles-of S) (element p (S .curve) v′ ∷ elements S t′)) (Span (poles-of S) (element p (S .curve) v ∷ elements S t))
 
 pub record AllAsked (p : ℕ) (t : List (List ℕ)) (d : List ℕ) (ys : List (List ℕ)) (top : ℕ) : Type 0 where
   pub prime : Prime p

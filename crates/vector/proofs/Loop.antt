@@ -74,7 +74,9 @@ added-none {p} {c} {s} {e} {r} {b} h z =
         ∙ ap (λ a. Z p .add a (res p r (i + s))) (L.zero-mul (Z p) _)
         ∙ L.zero-add (Z p) _
 
-pub added-more : {p c s e i v : ℕ} {r b r′ : List ℕ} → AxpyAsked p r c b s e → Added p r c b s i r′ → i < e → Is p v (Z p .add (Z p .mul (el p c) (res p b i)) (res p r′ (i + s))) → Added p r c b s (i + 1) (set r′ (i + s) v)
+pub added-more :
+    {p c s e i v : ℕ} {r b r′ : List ℕ} → AxpyAsked p r c b s e → Added p r c b s i r′ → i < e →
+    Is p v (Z p .add (Z p .mul (el p c) (res p b i)) (res p r′ (i + s))) → Added p r c b s (i + 1) (set r′ (i + s) v)
 added-more {p} {c} {s} {e} {i} {v} {r} {b} {r′} h a l n =
     record {
       vec = vec-set (a .vec) (i + s) v (n .below) (omega (arith, h .room)) none;
@@ -147,7 +149,8 @@ scaled-more {p} {c} {e} {i} {u} {v} {v′} h a l n =
 
     none : IsGap i → u ≡ 0
     none g =
-        zero-is (omega (arith, h .c-below)) (record { below = n .below; is = n .is ∙ ap (λ w. Z p .mul (el p c) (el p w)) (gap-zero (a .vec) i g) ∙ ap (Z p .mul (el p c)) (el-zero p) ∙ L.mul-zero (Z p) _ })
+        zero-is (omega (arith, h .c-below))
+        (record { below = n .below; is = n .is ∙ ap (λ w. Z p .mul (el p c) (el p w)) (gap-zero (a .vec) i g) ∙ ap (Z p .mul (el p c)) (el-zero p) ∙ L.mul-zero (Z p) _ })
 
 pub scaled-end : {p c e i : ℕ} {v v′ : List ℕ} → Scaled p v c i v′ → i ≡ e → Scaled p v c e v′
 scaled-end {p} {c} {v = v} {v′ = v′} a d = subst (λ k. Scaled p v c k v′) d a
@@ -165,7 +168,9 @@ pub paired-start : (p : ℕ) (a b : List ℕ) (s from : ℕ) → 0 < p → Is p 
 paired-start p a b s from h =
     record { below = h; is = el-zero p ∙ ap (total (Z p) (λ i. Z p .mul (res p a (from + i)) (res p b (from + i - s)))) {x = 0} {y = from - from} (omega arith) }
 
-pub paired-more : {p r r′ : ℕ} (a b : List ℕ) (s from n : ℕ) → from ≤ n → Is p r (pairing p a b s from n) → Is p r′ (Z p .add (Z p .mul (res p a n) (res p b (n - s))) (el p r)) → Is p r′ (pairing p a b s from (n + 1))
+pub paired-more :
+    {p r r′ : ℕ} (a b : List ℕ) (s from n : ℕ) → from ≤ n → Is p r (pairing p a b s from n) →
+    Is p r′ (Z p .add (Z p .mul (res p a n) (res p b (n - s))) (el p r)) → Is p r′ (pairing p a b s from (n + 1))
 paired-more {p} {r} {r′} a b s from n h i j =
     record {
       below = j .below;

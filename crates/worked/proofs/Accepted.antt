@@ -32,7 +32,7 @@ use Rattle.divisor.specs.Kind.{Kind, code, count, size, polynomials, IdealOf}
 use Rattle.layout.specs.Layout.{number2, number4}
 use Rattle.record.specs.Cause.{FirstCause, Passes}
 use Rattle.record.specs.Curve.{limit, curve-kind, curve-size, modulus, coefficient-number, equation, curve-stages, AcceptedCurve}
-use Rattle.record.specs.Divisor.{of-kind}
+use Rattle.record.specs.Divisor.{of-kind, divisor-form, divisor-rest}
 use Rattle.record.proofs.Cause.{first-append}
 use Rattle.record.proofs.Accepted.{Reads, reads-accepted, same-kind}
 use Rattle.calls.specs.Class.{Record}

@@ -35,7 +35,13 @@ neg-requires-10 : tie.Need-neg-requires-10
 neg-requires-10 c κs = search needs
 
 returns : tie.Need-returns
-returns c = cube-of _ (c .before .before .before .before .before .before .before .before .before .before .pre) (c .before .before .before .before .before .before .before .before .before .neg .ensures) (c .before .before .before .before .before .before .before .before .neg2 .ensures) (c .before .before .before .before .before .before .before .neg3 .ensures) (c .before .before .before .before .before .before .neg4 .ensures) (c .before .before .before .before .before .neg5 .ensures) (c .before .before .before .before .neg6 .ensures) (c .before .before .before .neg7 .ensures) (c .before .before .neg8 .ensures) (c .before .neg9 .ensures) (c .neg10 .ensures)
+returns c =
+    cube-of _ (c .before .before .before .before .before .before .before .before .before .before .pre)
+    (c .before .before .before .before .before .before .before .before .before .neg .ensures)
+    (c .before .before .before .before .before .before .before .before .neg2 .ensures)
+    (c .before .before .before .before .before .before .before .neg3 .ensures) (c .before .before .before .before .before .before .neg4 .ensures)
+    (c .before .before .before .before .before .neg5 .ensures) (c .before .before .before .before .neg6 .ensures)
+    (c .before .before .before .neg7 .ensures) (c .before .before .neg8 .ensures) (c .before .neg9 .ensures) (c .neg10 .ensures)
 
 pub cube-spec : {M : Type 1} → statement M
 cube-spec =

@@ -20,7 +20,9 @@ twice-requires-4 : tie.Need-twice-requires-4
 twice-requires-4 c κs = search needs
 
 returns : tie.Need-returns
-returns c = derivative-x-of _ (c .before .before .before .before .before .pre) (c .before .before .before .before .twice .ensures) (c .before .before .before .thrice .ensures) (c .before .before .twice2 .ensures) (c .before .twice3 .ensures) (c .twice4 .ensures)
+returns c =
+    derivative-x-of _ (c .before .before .before .before .before .pre) (c .before .before .before .before .twice .ensures)
+    (c .before .before .before .thrice .ensures) (c .before .before .twice2 .ensures) (c .before .twice3 .ensures) (c .twice4 .ensures)
 
 pub derivative-x-spec : {M : Type 1} → statement M
 derivative-x-spec =

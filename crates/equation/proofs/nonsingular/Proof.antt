@@ -26,7 +26,13 @@ whole-requires : tie.Need-whole-requires
 whole-requires c κs = search needs
 
 returns : tie.Need-returns
-returns c = test _ (c .before .before .before .before .before .before .before .before .before .before .before .before .before .before .before .before .pre) (c .before .before .before .before .before .before .before .before .before .before .before .before .before .before .before .derivative-y .ensures) (c .before .before .before .before .before .before .before .before .before .before .before .before .before .y-multiples .ensures) (c .before .before .before .before .before .before .before .before .before .insert-all .ensures) (c .before .before .before .before .before .before .before .before .derivative-x .ensures) (c .before .before .before .before .before .before .y-multiples2 .ensures) (c .before .before .insert-all2 .ensures) (c .whole .ensures)
+returns c =
+    test _ (c .before .before .before .before .before .before .before .before .before .before .before .before .before .before .before .before .pre)
+    (c .before .before .before .before .before .before .before .before .before .before .before .before .before .before .before .derivative-y .ensures)
+    (c .before .before .before .before .before .before .before .before .before .before .before .before .before .y-multiples .ensures)
+    (c .before .before .before .before .before .before .before .before .before .insert-all .ensures)
+    (c .before .before .before .before .before .before .before .before .derivative-x .ensures)
+    (c .before .before .before .before .before .before .y-multiples2 .ensures) (c .before .before .insert-all2 .ensures) (c .whole .ensures)
 
 pub nonsingular-spec : {M : Type 1} → statement M
 nonsingular-spec =

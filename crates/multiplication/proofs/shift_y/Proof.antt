@@ -44,7 +44,12 @@ loop-less : tie.Need-loop-less Inv-loop μ-loop
 loop-less c = search needs
 
 loop-again : tie.Need-loop-again Inv-loop μ-loop
-loop-again c = (⊎-elim (λ w. shifted-as (w .2) (shifted-more (c .before .before .before .pre) (c .before .before .loop .inv .0) (c .before .loop-test .taken) (entry-moved _ (omega arith) (omega (arith, w .0 .taken))))) (λ w. shifted-as (w .1) (shifted-skip (c .before .before .loop .inv .0) (entry-dropped _ (omega arith) (w .0 .left)))) (c .if1 .came), omega arith)
+loop-again c = (
+  ⊎-elim
+      (λ w. shifted-as (w .2) (shifted-more (c .before .before .before .pre) (c .before .before .loop .inv .0) (c .before .loop-test .taken) (entry-moved _ (omega arith) (omega (arith, w .0 .taken)))))
+      (λ w. shifted-as (w .1) (shifted-skip (c .before .before .loop .inv .0) (entry-dropped _ (omega arith) (w .0 .left)))) (c .if1 .came),
+  omega arith,
+)
 
 returns : tie.Need-returns Inv-loop μ-loop
 returns c = shifted-end (c .before .loop .inv .0) (omega arith)

@@ -48,7 +48,9 @@ add-axpy : tie.Need-add-axpy Inv-loop μ-loop
 add-axpy c = omega arith
 
 axpy-requires : tie.Need-axpy-requires Inv-loop μ-loop
-axpy-requires c κs = turn-asked (c .before .before .before .before .before .before .pre) (c .before .before .before .before .before .loop .inv .0) (c .before .before .before .before .loop-test .taken) (omega arith)
+axpy-requires c κs =
+    turn-asked (c .before .before .before .before .before .before .pre) (c .before .before .before .before .before .loop .inv .0)
+    (c .before .before .before .before .loop-test .taken) (omega arith)
 
 add-n : tie.Need-add-n Inv-loop μ-loop
 add-n c = omega arith
@@ -57,7 +59,13 @@ loop-less : tie.Need-loop-less Inv-loop μ-loop
 loop-less c = omega arith
 
 loop-again : tie.Need-loop-again Inv-loop μ-loop
-loop-again c = (⊎-elim (λ w. part-as (w .5) (turn-more (c .before .before .before .pre) (c .before .before .loop .inv .0) (c .before .loop-test .taken) (omega (arith, w .0 .taken)) (w .4 .ensures))) (λ w. part-as (w .1) (turn-skip (c .before .before .before .pre) (c .before .before .loop .inv .0) (c .before .loop-test .taken) (omega (arith, w .0 .left)))) (c .if1 .came), omega arith)
+loop-again c = (
+  ⊎-elim
+      (λ w. part-as (w .5) (turn-more (c .before .before .before .pre) (c .before .before .loop .inv .0) (c .before .loop-test .taken) (omega (arith, w .0 .taken)) (w .4 .ensures)))
+      (λ w. part-as (w .1) (turn-skip (c .before .before .before .pre) (c .before .before .loop .inv .0) (c .before .loop-test .taken) (omega (arith, w .0 .left))))
+      (c .if1 .came),
+  omega arith,
+)
 
 returns : tie.Need-returns Inv-loop μ-loop
 returns c = part-end (c .before .before .pre) (c .before .loop .inv .0) (omega arith)

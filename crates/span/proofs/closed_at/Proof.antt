@@ -33,7 +33,9 @@ is-zero-requires : tie.Need-is-zero-requires
 is-zero-requires c κs = search needs
 
 returns : tie.Need-returns
-returns c = at-test _ _ (c .before .before .before .before .times-y .ensures) (c .before .before .reduce .ensures) (c .before .before .before .before .before .before .before .pre .inside) (c .is-zero .ensures)
+returns c =
+    at-test _ _ (c .before .before .before .before .times-y .ensures) (c .before .before .reduce .ensures)
+    (c .before .before .before .before .before .before .before .pre .inside) (c .is-zero .ensures)
 
 pub closed-at-spec : {M : Type 1} → statement M
 closed-at-spec =

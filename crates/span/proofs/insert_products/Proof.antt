@@ -33,10 +33,15 @@ times-requires : tie.Need-times-requires Inv-loop μ-loop
 times-requires c κs = times-asked (c .before .before .before .before .pre) (c .before .before .loop-test .taken)
 
 add-insert : tie.Need-add-insert Inv-loop μ-loop
-add-insert c = omega (arith, put-degree (c .before .before .before .before .before .before .before .before .pre) (c .before .before .before .before .before .before .loop-test .taken), c .before .before .before .before .before .before .before .before .pre .low)
+add-insert c =
+    omega
+    (arith, put-degree (c .before .before .before .before .before .before .before .before .pre) (c .before .before .before .before .before .before .loop-test .taken), c .before .before .before .before .before .before .before .before .pre .low)
 
 insert-requires : tie.Need-insert-requires Inv-loop μ-loop
-insert-requires c κs = put-asked (c .before .before .before .before .before .before .before .before .pre) (c .before .before .before .before .before .before .loop-test .taken) (c .before .before .before .before .before .before .before .loop .inv) (c .before .before .before .times .ensures)
+insert-requires c κs =
+    put-asked (c .before .before .before .before .before .before .before .before .pre)
+    (c .before .before .before .before .before .before .loop-test .taken) (c .before .before .before .before .before .before .before .loop .inv)
+    (c .before .before .before .times .ensures)
 
 add-i : tie.Need-add-i Inv-loop μ-loop
 add-i c = omega arith
@@ -45,7 +50,11 @@ loop-less : tie.Need-loop-less Inv-loop μ-loop
 loop-less c = omega arith
 
 loop-again : tie.Need-loop-again Inv-loop μ-loop
-loop-again c = put-more (c .before .before .before .before .before .before .before .before .before .pre) (c .before .before .before .before .before .before .before .loop-test .taken) (c .before .before .before .before .before .before .before .before .loop .inv) (c .before .before .before .before .times .ensures) (c .insert .ensures)
+loop-again c =
+    put-more (c .before .before .before .before .before .before .before .before .before .pre)
+    (c .before .before .before .before .before .before .before .loop-test .taken)
+    (c .before .before .before .before .before .before .before .before .loop .inv) (c .before .before .before .before .times .ensures)
+    (c .insert .ensures)
 
 returns : tie.Need-returns Inv-loop μ-loop
 returns c = put-end (c .before .loop .inv) (omega arith)

@@ -33,10 +33,15 @@ y-multiples-requires : tie.Need-y-multiples-requires Inv-loop μ-loop
 y-multiples-requires c κs = multiples-asked (c .before .before .before .before .before .before .pre) (c .before .before .loop-test .taken)
 
 add-insert-products : tie.Need-add-insert-products Inv-loop μ-loop
-add-insert-products c = omega (arith, c .before .before .before .before .before .before .before .before .pre .small₂ (c .before .before .before .before .before .loop .j) (c .before .before .before .before .loop-test .taken))
+add-insert-products c =
+    omega
+    (arith, c .before .before .before .before .before .before .before .before .pre .small₂ (c .before .before .before .before .before .loop .j) (c .before .before .before .before .loop-test .taken))
 
 insert-products-requires : tie.Need-insert-products-requires Inv-loop μ-loop
-insert-products-requires c κs = products-asked (c .before .before .before .before .before .before .before .before .before .before .pre) (c .before .before .before .before .before .before .loop-test .taken) (c .before .before .before .before .before .before .before .loop .inv) (c .before .before .before .y-multiples .ensures)
+insert-products-requires c κs =
+    products-asked (c .before .before .before .before .before .before .before .before .before .before .pre)
+    (c .before .before .before .before .before .before .loop-test .taken) (c .before .before .before .before .before .before .before .loop .inv)
+    (c .before .before .before .y-multiples .ensures)
 
 add-j : tie.Need-add-j Inv-loop μ-loop
 add-j c = omega arith
@@ -45,7 +50,11 @@ loop-less : tie.Need-loop-less Inv-loop μ-loop
 loop-less c = omega arith
 
 loop-again : tie.Need-loop-again Inv-loop μ-loop
-loop-again c = multiply-more (c .before .before .before .before .before .before .before .before .before .before .before .pre) (c .before .before .before .before .before .before .before .loop-test .taken) (c .before .before .before .before .before .before .before .before .loop .inv) (c .before .before .before .before .y-multiples .ensures) (c .insert-products .ensures)
+loop-again c =
+    multiply-more (c .before .before .before .before .before .before .before .before .before .before .before .pre)
+    (c .before .before .before .before .before .before .before .loop-test .taken)
+    (c .before .before .before .before .before .before .before .before .loop .inv) (c .before .before .before .before .y-multiples .ensures)
+    (c .insert-products .ensures)
 
 returns : tie.Need-returns Inv-loop μ-loop
 returns c = multiply-end (c .before .before .before .before .pre) (c .before .loop .inv) (omega arith)

@@ -61,10 +61,15 @@ index-1-clear-2 : tie.Need-index-1-clear-2
 index-1-clear-2 c = search needs
 
 clear-requires-2 : tie.Need-clear-requires-2
-clear-requires-2 c κs = swap-asked (c .before .before .before .before .before .before .before .before .before .before .before .pre) (c .before .before .before .before .before .make-monic .ensures) (omega (arith, c .before .before .before .before .before .before .before .if2 .left)) (c .before .before .if3 .taken)
+clear-requires-2 c κs =
+    swap-asked (c .before .before .before .before .before .before .before .before .before .before .before .pre)
+    (c .before .before .before .before .before .make-monic .ensures)
+    (omega (arith, c .before .before .before .before .before .before .before .if2 .left)) (c .before .before .if3 .taken)
 
 returns-3 : tie.Need-returns-3
-returns-3 c = turn-swap (c .before .before .before .before .before .before .before .before .before .before .before .before .pre) (c .before .before .before .before .before .before .make-monic .ensures) (c .before .before .before .if3 .taken) (c .clear2 .ensures)
+returns-3 c =
+    turn-swap (c .before .before .before .before .before .before .before .before .before .before .before .before .pre)
+    (c .before .before .before .before .before .before .make-monic .ensures) (c .before .before .before .if3 .taken) (c .clear2 .ensures)
 
 returns-4 : tie.Need-returns-4
 returns-4 c = turn-fill (c .before .before .before .before .before .before .before .before .before .pre) (c .before .before .before .make-monic .ensures) (c .if3 .left)

@@ -44,7 +44,9 @@ element-copy-out-mul-add : tie.Need-element-copy-out-mul-add Inv-loop μ-loop
 element-copy-out-mul-add c = search needs
 
 mul-add-requires : tie.Need-mul-add-requires Inv-loop μ-loop
-mul-add-requires c κs = record { below-1 = c .before .before .before .before .before .before .pre .c-below; below-2 = c .before .before .before .before .before .before .pre .b-vec .below _; below-3 = c .before .before .before .before .loop .inv .0 .vec .below _ }
+mul-add-requires c κs =
+    record
+    { below-1 = c .before .before .before .before .before .before .pre .c-below; below-2 = c .before .before .before .before .before .before .pre .b-vec .below _; below-3 = c .before .before .before .before .loop .inv .0 .vec .below _ }
 
 mul-r : tie.Need-mul-r Inv-loop μ-loop
 mul-r c = search needs
@@ -59,7 +61,11 @@ loop-less-2 : tie.Need-loop-less-2 Inv-loop μ-loop
 loop-less-2 c = search needs
 
 loop-again-2 : tie.Need-loop-again-2 Inv-loop μ-loop
-loop-again-2 c = (added-more (c .before .before .before .before .before .before .before .pre) (c .before .before .before .before .before .loop .inv .0) (c .before .before .before .before .loop-test .taken) (c .mul-add .ensures), omega arith)
+loop-again-2 c = (
+  added-more (c .before .before .before .before .before .before .before .pre) (c .before .before .before .before .before .loop .inv .0)
+      (c .before .before .before .before .loop-test .taken) (c .mul-add .ensures),
+  omega arith,
+)
 
 returns-2 : tie.Need-returns-2 Inv-loop μ-loop
 returns-2 c = added-end (c .before .loop .inv .0) (omega arith)

@@ -34,7 +34,9 @@ element-copy-out-mul-add-2 : tie.Need-element-copy-out-mul-add-2 Inv-loop μ-loo
 element-copy-out-mul-add-2 c = search needs
 
 mul-add-requires : tie.Need-mul-add-requires Inv-loop μ-loop
-mul-add-requires c κs = record { below-1 = c .before .before .before .before .pre .a-vec .below _; below-2 = c .before .before .before .before .pre .b-vec .below _; below-3 = c .before .before .before .loop .inv .0 .below }
+mul-add-requires c κs =
+    record
+    { below-1 = c .before .before .before .before .pre .a-vec .below _; below-2 = c .before .before .before .before .pre .b-vec .below _; below-3 = c .before .before .before .loop .inv .0 .below }
 
 add-n : tie.Need-add-n Inv-loop μ-loop
 add-n c = search needs
@@ -43,10 +45,19 @@ loop-less : tie.Need-loop-less Inv-loop μ-loop
 loop-less c = search needs
 
 loop-again : tie.Need-loop-again Inv-loop μ-loop
-loop-again c = let a = c .before .before .before .before .before .args in (paired-more (a .a .now) (a .b .now) (a .s) (a .from) _ (c .before .before .before .before .loop .inv .1) (c .before .before .before .before .loop .inv .0) (c .mul-add .ensures), omega arith, omega arith)
+loop-again c =
+    let a = c .before .before .before .before .before .args in (
+      paired-more (a .a .now) (a .b .now) (a .s) (a .from) _ (c .before .before .before .before .loop .inv .1)
+          (c .before .before .before .before .loop .inv .0) (c .mul-add .ensures),
+      omega arith,
+      omega arith,
+    )
 
 returns : tie.Need-returns Inv-loop μ-loop
-returns c = let a = c .before .before .args in let e : c .before .loop .n - a .from ≡ a .to - a .from = omega arith in paired-end (a .a .now) (a .b .now) (a .s) (a .from) _ _ e (c .before .loop .inv .0)
+returns c =
+    let a = c .before .before .args in
+    let e : c .before .loop .n - a .from ≡ a .to - a .from = omega arith in
+    paired-end (a .a .now) (a .b .now) (a .s) (a .from) _ _ e (c .before .loop .inv .0)
 
 pub dot-spec : {M : Type 1} → statement M
 dot-spec =
