@@ -1,5 +1,5 @@
 -- The curve is read first.
---   curve-on, curve-cause          what read_curve found: the ground of an accepted curve, or the cause
+--   curve-passes, curve-asked, curve-on, curve-cause     what read_curve found: an accepted curve and its ground, or the cause
 --   writes-after, writes-curve     a call that writes: the curve is accepted, the curve is refused
 --   returns-after, returns-curve   the same of a call that writes nothing
 use mathlib.Core.Path.{_≡_, subst}

@@ -3,12 +3,10 @@
 --   only               a record with the number of κ′ has no other kind
 --   rest-31            a record with none of the numbers 0, 11, 21 and 22 has the kind 31
 --   chosen             the triple of the record's kind is its triple
-use mathlib.Core.Path.{_≡_, refl, sym, _∙_, ap, subst, subst₃}
+use mathlib.Core.Path.{_≡_, refl, sym, _∙_, ap, subst₃}
 use mathlib.Core.List.{List}
 use Prim.Native.Nat.{ℕ}
-use native.Mathlib.Omega.{arith}
 use lib.Dec.{eqb}
-use Rattle.prime.specs.Prime.{Prime}
 use Rattle.field.proofs.Invert.{prime-large}
 use Rattle.curve.specs.Sequence.{pick}
 use Rattle.divisor.specs.Kind.{Kind, k0, k11, k21, k22, k31, code}

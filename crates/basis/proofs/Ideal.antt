@@ -5,7 +5,7 @@
 --   based-ideal            the span of a basis' triple is an ideal
 --   based-same             … the ideal of the record
 use mathlib.Core.Path.{_≡_, refl, sym, _∙_, ap, subst}
-use mathlib.Core.List.{List, [], _∷_, map}
+use mathlib.Core.List.{List, []}
 use Prim.Native.Nat.{ℕ, zero, suc, _%_, _<_, _≤_}
 use native.Mathlib.Omega.{arith}
 use lib.ListN.{getD, List·getD-map}
@@ -14,10 +14,9 @@ use Rattle.field.specs.Residue.{Z}
 use Rattle.prime_field.specs.Field.{F}
 use Rattle.ideal.specs.Ideal.{IsIdeal, SameIdeal}
 use Rattle.ideal.proofs.Span.{Span}
-use Rattle.curve.specs.Curve.{Curve, Coordinate, y}
-use Rattle.curve.specs.Sequence.{coefficient}
+use Rattle.curve.specs.Curve.{Curve, y}
 use Rattle.divisor.specs.Kind.{Kind, IdealOf, IsBasis}
-use Rattle.divisor.proofs.Table.{degree, Reached, degree-bound}
+use Rattle.divisor.proofs.Table.{degree, degree-bound}
 use Rattle.divisor.proofs.Members.{member, members}
 use Rattle.divisor.proofs.Basis as B
 use Rattle.vector.specs.Vector.{at, row, element}
@@ -25,7 +24,7 @@ use Rattle.triple.specs.Setting.{Setting, ring, poles-of, Ready}
 use Rattle.triple.specs.Triple.{Spanned}
 use Rattle.span.specs.Contract.{Open}
 use Rattle.basis.specs.declared.Divisor.{Divisor}
-use Rattle.basis.specs.Divisor.{residues, Based}
+use Rattle.basis.specs.Divisor.{residues}
 use Rattle.basis.specs.Contract.{three-degrees, Tripled}
 
 module _ {p : ℕ} {κ : Kind} {r : Divisor} {t : List (List ℕ)} {d : List ℕ} (h : Tripled p κ r t d) where

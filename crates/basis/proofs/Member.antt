@@ -3,29 +3,28 @@
 --   full-of, small-of        three vectors of the degrees of a kind are a full triple
 --   rows-0 … rows-31         the vectors of each kind
 --   tripled                  the vectors of a record are a triple of its members
-use mathlib.Core.Path.{_≡_, refl, sym, _∙_, ap, ap₂, subst}
-use mathlib.Core.List.{List, [], _∷_, map}
+use mathlib.Core.Path.{_≡_, refl, _∙_, ap, ap₂}
+use mathlib.Core.List.{List, [], _∷_}
 use mathlib.Core.Logic.{inl}
-use Prim.Native.Nat.{ℕ, zero, suc, _%_, _<_, _≤_}
+use Prim.Native.Nat.{ℕ, zero, suc, _<_}
 use native.Mathlib.Omega.{arith}
 use Rattle.algebra.specs.Ring.{CommRing}
 use Rattle.algebra.proofs.Norm.{nil}
 use Rattle.algebra.proofs.Solve.{solve, _⊞_, _⊠_}
-use Rattle.prime.specs.Prime.{Prime}
-use Rattle.field.specs.Residue.{Z, el}
+use Rattle.field.specs.Residue.{Z}
 use Rattle.field.proofs.Element.{el-zero}
 use Rattle.curve.specs.Curve.{Curve, Coordinate, x, y, constant}
 use Rattle.curve.proofs.Coefficient.{constant-zero}
 use Rattle.curve.specs.Monomial.{mono}
 use Rattle.divisor.specs.Kind.{Kind, k0, k11, k21, k22, k31}
-use Rattle.divisor.proofs.Table.{degree, degree-bound}
-use Rattle.divisor.proofs.Members.{member, members}
+use Rattle.divisor.proofs.Table.{degree-bound}
+use Rattle.divisor.proofs.Members.{member}
 use Rattle.divisor.proofs.Monomials.{mono-one, mono-x, mono-y, mono-xx, mono-xy, mono-yy}
 use Rattle.vector.specs.Vector.{Vec, at, row, element, scalar}
 use Rattle.triple.specs.Triple.{Present, Full}
 use Rattle.span.specs.Contract.{Small}
 use Rattle.basis.specs.declared.Divisor.{Divisor}
-use Rattle.basis.specs.Divisor.{numbers, residues, Shaped}
+use Rattle.basis.specs.Divisor.{numbers, residues}
 use Rattle.basis.specs.Contract.{coefficients, vectors, three-degrees, Tripled}
 use Rattle.basis.proofs.Row.{Monomials, row-vec, row-present, row-value}
 

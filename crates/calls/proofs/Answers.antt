@@ -7,13 +7,12 @@
 --   buffer-sound, divisor-stages-sound, one-sound, two-sound, list-of-sound    what a call checks refuses nothing that it passes, and with
 --                          one number only
 --   record-fits            a record takes 4 to 40 bytes
---   written-length         the buffer keeps its length
 use mathlib.Core.Path.{_≡_, sym, _∙_, ap}
 use mathlib.Core.Logic.{_⊎_, inl, inr}
 use mathlib.Core.List.{List, [], _∷_, _++_}
 use Prim.Native.Nat.{ℕ, _<_, _≤_}
 use native.Mathlib.Omega.{arith}
-use lib.ListN.{length, drop, length-append, length-drop}
+use lib.ListN.{length, drop}
 use lib.IntN.{ℤ, pos}
 use Rattle.divisor.specs.Kind.{Kind}
 use Rattle.record.specs.Cause.{Stage, FirstCause, Passes}
@@ -88,6 +87,3 @@ record-fits c w r = go (accepted-reads (modulus c) (equation c) w (r .1))
   where
     go : (κ : Kind) × Reads (modulus c) (equation c) κ w → (4 ≤ length w) × (length w ≤ room)
     go (κ, h) = (omega (arith, h .long, size-least κ), omega (arith, h .long, size-most κ))
-
-pub written-length : (w out : List ℕ) → length w ≤ length out → length (w ++ drop (length w) out) ≡ length out
-written-length w out h = omega (arith, length-append w (drop (length w) out), length-drop (length w) out)

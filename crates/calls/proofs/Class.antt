@@ -7,7 +7,7 @@
 --   reduced-class          … and back, for a based ideal J with a nonzero element
 --   poles-same             the pole numbers do not depend on how the curve was accepted
 --   reduced-on, star-on    … so reduced ideals and stars for one proof of that are those for each
---   zero-accepted, zero-ideal, zero-reduced    the zero record: its ideal is the whole ring
+--   zero-accepted, zero-ideal    the zero record: its ideal is the whole ring
 --   record-same            two records with the same ideal are the same
 --   class-same             … and so are two with equivalent ideals
 --   reduced-one            an ideal has at most one record of its reduced ideal
@@ -16,7 +16,6 @@
 --   sum-one, sum-comm      there is one sum, and it does not depend on the order
 --   zero-neutral           a is the sum of the zero record and a
 --   negative-one           there is one negative
---   negative-back          a is the negative of its negative
 use mathlib.Core.Path.{_≡_, refl, sym, _∙_, ap, subst}
 use mathlib.Core.List.{List, [], _∷_}
 use Prim.Native.Nat.{ℕ}
@@ -33,7 +32,7 @@ use Rattle.ideal.proofs.Every.{Every}
 use Rattle.ideal.proofs.Class.{equivalent-same, equivalent-trans}
 use Rattle.ideal.proofs.Product.{product-comm, product-unit, product-same, product-ideal, product-equivalent}
 use Rattle.ideal.proofs.Reduced.{SmallFootprint, footprint-same, equivalent-reduced, reduced-equivalent, reduced-unique, footprint-class}
-use Rattle.ideal.proofs.Star.{star-back, star-unique}
+use Rattle.ideal.proofs.Star.{star-unique}
 use Rattle.ideal.proofs.Finite.{BasedIdeal, footprint-based, product-based}
 use Rattle.poles.specs.Poles.{poles}
 use Rattle.divisor.specs.Kind.{Kind, k0}
@@ -128,9 +127,6 @@ module _ (c : List ℕ) (A : AcceptedCurve c) where
   pub reduced-one : {J : Car → Type 0} (w w′ : List ℕ) → IsIdeal (Ring c) J → ReducedOf c J w → ReducedOf c J w′ → w ≡ w′
   reduced-one w w′ i h h′ = record-same w w′ (h .accepted) (h′ .accepted) (reduced-unique P i (reduced-on c A w h) (reduced-on c A w′ h′))
 
-  pub zero-reduced : ReducedOf c (λ _. Unit) zero-record
-  zero-reduced = class-reduced c A zero-record (zero-accepted c) (equivalent-same P (zero-ideal c))
-
   -- the sum of a and b
   module _ (a b w : List ℕ) (ra : Accepted c a) (rb : Accepted c b) where
     pub sum-class : IsSum c a b w → Equivalent (Ring c) (Product (Ring c) (Ideal c a) (Ideal c b)) (Ideal c w)
@@ -155,10 +151,3 @@ module _ (c : List ℕ) (A : AcceptedCurve c) where
 
   pub negative-one : (a w w′ : List ℕ) → Accepted c a → IsNegative c a w → IsNegative c a w′ → w ≡ w′
   negative-one a w w′ r h h′ = record-same w w′ (h .accepted) (h′ .accepted) (star-unique P (accepted-ideal c A a r) (star-on c A a w h) (star-on c A a w′ h′))
-
-pub negative-back : (c a w : List ℕ) → Record c a → IsNegative c a w → IsNegative c w a
-negative-back c a w r h = record {
-  curve = h .curve;
-  accepted = r;
-  star = star-back (poles-on c (h .curve)) (accepted-footprint c (h .curve) a (r .1)) (h .star);
-}

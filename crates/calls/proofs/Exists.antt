@@ -4,8 +4,8 @@
 --   writes-some            a call whose stages are all passed but for the buffer's length has an answer, if there is a result
 --   one-passes, two-passes, list-passes    what a call checks before the buffer is passed on an accepted curve with accepted divisors
 --   sum-answered, double-answered, negative-answered, multiple-answered, list-answered   each call has an answer
-use mathlib.Core.Path.{_≡_, refl}
-use mathlib.Core.Logic.{_⊎_, inl, inr}
+use mathlib.Core.Path.{refl}
+use mathlib.Core.Logic.{inl, inr}
 use mathlib.Core.List.{List, [], _∷_, _++_}
 use Prim.Native.Nat.{ℕ, suc, _≤_}
 use native.Mathlib.Decide.{decLe}

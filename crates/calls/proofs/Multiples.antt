@@ -4,13 +4,12 @@
 --   list-class, class-list w is the list sum of rs exactly if it stands for rs
 --   list-one               there is one list sum
 --   list-append            the sum of two list sums is the sum of the lists one after the other
---   list-none, list-single the list sum of no record is the zero record, that of one record is the record
+--   list-single            the list sum of one record is the record
 --   list-more              one record more at the end
 --   copies-accepted        n copies of an accepted record
 --   multiple-add           m copies and n copies are m + n copies
---   multiple-double        twice m copies are m + m copies
 --   multiple-one           there is one multiple
-use mathlib.Core.Path.{_≡_, refl, sym, subst}
+use mathlib.Core.Path.{_≡_, sym, subst}
 use mathlib.Core.List.{List, [], _∷_, _++_}
 use Prim.Native.Nat.{ℕ, zero, suc, _+_}
 use lib.ListN.{replicate, replicate-append-replicate}
@@ -20,7 +19,7 @@ use Rattle.ideal.specs.Poles.{Poles}
 use Rattle.ideal.proofs.Class.{equivalent-same, equivalent-sym, equivalent-trans}
 use Rattle.ideal.proofs.Product.{productof-append, productof-one}
 use Rattle.ideal.proofs.Finite.{productof-based}
-use Rattle.record.specs.Curve.{modulus, equation, AcceptedCurve}
+use Rattle.record.specs.Curve.{AcceptedCurve}
 use Rattle.calls.specs.Class.{Ring, Record, Ideal, poles-on, zero-record, IsSum, IsNegative, IsListSum, IsMultiple}
 use Rattle.calls.proofs.Class.{Accepted, AcceptedRow, accepted-ideal, all-based, all-ideals, class-reduced, reduced-class, class-same, zero-accepted, zero-ideal, sum-law, negative-one}
 
@@ -65,9 +64,6 @@ module _ (c : List ℕ) (A : AcceptedCurve c) where
           joined : Equivalent (Ring c) (ProductOf (Ring c) (Ideal c) (rs ++ ts)) (Product (Ring c) (ProductOf (Ring c) (Ideal c) rs) (ProductOf (Ring c) (Ideal c) ts))
           joined = equivalent-same P (productof-append (Ring c) (Ideal c) rs ts (all-ideals c A rs a) (all-ideals c A ts b))
 
-  pub list-none : IsListSum c [] zero-record
-  list-none = refl
-
   pub list-single : (r : List ℕ) → Record c r → IsListSum c (r ∷ []) r
   list-single r h = class-reduced c A r h (equivalent-same P (productof-one (Ring c) (Ideal c) r (accepted-ideal c A r (h .1))))
 
@@ -81,9 +77,6 @@ module _ (c : List ℕ) (A : AcceptedCurve c) where
     multiple-add m n u v w k l s =
         subst (λ (rs : List (List ℕ)). IsListSum c rs w) (replicate-append-replicate m n a)
         (list-append (replicate m a) (replicate n a) u v w (copies-accepted c m a h) (copies-accepted c n a h) k l s)
-
-    pub multiple-double : (m : ℕ) (u w : List ℕ) → IsListSum c (replicate m a) u → IsSum c u u w → IsListSum c (replicate (m + m) a) w
-    multiple-double m u w k s = multiple-add m m u u w k k s
 
     pub multiple-one : (n : ℤ) (w w′ : List ℕ) → IsMultiple c a n w → IsMultiple c a n w′ → w ≡ w′
     multiple-one (pos n) w w′ k l = list-one (replicate n a) w w′ (copies-accepted c n a h) k l

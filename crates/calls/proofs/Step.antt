@@ -19,7 +19,7 @@ use Rattle.ideal.specs.Poles.{Poles}
 use Rattle.ideal.proofs.Every.{Every, every-append}
 use Rattle.ideal.proofs.Class.{equivalent-sym, equivalent-trans}
 use Rattle.ideal.proofs.Product.{productof-join}
-use Rattle.record.specs.Curve.{modulus, equation, curve-stages, AcceptedCurve}
+use Rattle.record.specs.Curve.{curve-stages, AcceptedCurve}
 use Rattle.calls.specs.Answer.{minus}
 use Rattle.calls.specs.Class.{Ring, Record, Ideal, poles-on, IsSum}
 use Rattle.calls.specs.Call.{divisor-of, one-if, room}

@@ -1,5 +1,7 @@
 -- The nine calls. c is the curve's bytes, a and b a divisor's, s a list's, out the result buffer's. Document 01's order of causes: the
 -- curve; then 11; then each divisor from first to last; last 10.
+--   divisor-of c a, list-of c s, buffer out      the stages of a divisor, of a list and of the result buffer; room: its least length
+--   one-if b, tally kind rs      how many of the records have the kind
 --   CheckCurve c r               CheckDivisor c a r
 --   Sum c a b out r out′         Double c a out r out′       Negative c a out r out′
 --   Multiple c a n out r out′    ListSum c s out r out′

@@ -2,7 +2,7 @@
 -- of sum calls on it.
 --   PoolCall             a call: two places, the result buffer before and after, what was returned
 --   entry p i            what stands at place i
---   without i j p        p without the places i and j, the rest closed up
+--   without i j p        p without the places i and j, the rest closed up (without-from: from a place on); pick b x y is x if b holds, else y
 --   amount r             the length that a call returned
 --   written-by k         the bytes that the call wrote
 --   pool-after k p       the pool that the call leaves; it stays where the buffer is under 40 bytes
@@ -10,8 +10,9 @@
 --   pool-of, groups-of   … after a list of calls
 --   IsCall c p k         the call is a sum call on the curve c with the records at two different places of the pool p
 --   Made c p ks          the calls ks are made one after the other, each on the pool that the one before it left
---   alone n              the groups at the start: the group of the record at place i is i alone
+--   alone n              the groups at the start: the group of the record at place i is i alone (alone-from: from a place on)
 --   served ks            how many calls have a buffer of 40 bytes or more
+--   CallAnswer k         what a call returns and leaves, by its buffer's length; CallAnswers ks: each of the calls
 --   ListAnswer           what the single list call over the given records writes
 --   PoolEnd c rs ks      what document 01 claims of the calls ks on the pool of the given records rs
 use mathlib.Core.Path.{_≡_}

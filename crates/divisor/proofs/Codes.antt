@@ -1,6 +1,7 @@
 -- The five kinds by their numbers, and that only the numbers below a kind's count matter.
 --   kind-of n          the kind of code n; kind 0 for a number that is no code
 --   code-injective     two kinds with the same code are the same
+--   code-small         a code has two bytes
 --   count-small, size-least, size-most    at most 9 numbers; 4 to 40 bytes
 --   polynomials-same, ideal-same, basis-same    numbers that agree below the count give the same polynomials, ideal and basis
 use mathlib.Core.Path.{_≡_, refl, sym, ap, _∙_, subst}
@@ -17,7 +18,7 @@ use Rattle.divisor.specs.Kind.{Kind, k0, k11, k21, k22, k31, code, count
 abbrev pub kind-of : ℕ → Kind
 kind-of n = ite (ℕ-discrete n 11) k11 (ite (ℕ-discrete n 21) k21 (ite (ℕ-discrete n 22) k22 (ite (ℕ-discrete n 31) k31 k0)))
 
-pub kind-of-code : (κ : Kind) → kind-of (code κ) ≡ κ
+kind-of-code : (κ : Kind) → kind-of (code κ) ≡ κ
 unfolding ℕ-discrete
 kind-of-code k0 = refl
 kind-of-code k11 = refl

@@ -21,7 +21,7 @@ use Rattle.ideal.proofs.Every.{Every, every-append, every-left, every-right}
 use Rattle.ideal.proofs.Generated.{generated-ideal, generated-first, generated-rest}
 use Rattle.ideal.proofs.Leads.{IsSpace, Lead, ideal-space, lowering}
 use Rattle.ideal.proofs.Span.{Span, four-pole, span-each, span-in, span-nil, span-space, span-sum, span-within, span-x, x-lead}
-use Rattle.curve.specs.Curve.{Curve, y}
+use Rattle.curve.specs.Curve.{y}
 use Rattle.curve.specs.Monomial.{power}
 use Rattle.nonsingular.specs.Nonsingular.{Nonsingular}
 use Rattle.nonsingular.specs.Derivative.{derivative-x, derivative-y}
@@ -30,7 +30,7 @@ use Rattle.vector.specs.Vector.{element, y-to}
 use Rattle.multiplication.specs.Contract.{RowsOf, YMultiples}
 use Rattle.triple.specs.Setting as setting
 use Rattle.triple.specs.Setting.{Setting, poles-of}
-use Rattle.triple.specs.Triple.{Triple, elements, Spanned}
+use Rattle.triple.specs.Triple.{elements, Spanned}
 use Rattle.triple.specs.Contract.{AllAsked, AllInserted, Whole}
 use Rattle.equation.specs.declared.Equation.{Equation}
 use Rattle.equation.specs.Equation.{curve-of, DerivativeX, DerivativeY, TestAsked}
@@ -88,7 +88,7 @@ module _ {p : ℕ} (S : Setting p) where
           scale = λ {c} {a} k m. subst (Span P bs) (sym (setting.ring S .mul-assoc c a g)) (span-space P bs .scale k m);
         }
 
-    pub multiples-in : Span P bs (Y 0 ⊗ g) → Span P bs (Y 1 ⊗ g) → Span P bs (Y 2 ⊗ g) → (r : Car) → Span P bs (r ⊗ g)
+    multiples-in : Span P bs (Y 0 ⊗ g) → Span P bs (Y 1 ⊗ g) → Span P bs (Y 2 ⊗ g) → (r : Car) → Span P bs (r ⊗ g)
     multiples-in m0 m1 m2 r = span-in P into-space (λ u m. subst (Span P bs) (sym (setting.ring S .mul-assoc (P .mono 3) u g)) (span-x P bs (u ⊗ g) m)) powers (m0, (m1, (m2, tt))) r (powers-all r)
 
   module _ {t : List (List ℕ)} {d : List ℕ} {ys t′ : List (List ℕ)} {d′ : List ℕ} {g : Car} (a : AllInserted p t d ys t′ d′) (len : length ys ≡ 3) (o : RowsOf p (S .curve) ys g) where

@@ -143,7 +143,7 @@ pub thrice-of : {p d r : ℕ} (a : ℕ) → Is p d (twice (Z p) (el p a)) → Is
 thrice-of {p} a i j = record { below = j .below; is = j .is ∙ ap (λ u. Z p .add u (el p a)) (i .is) }
 
 -- the element of a vector with the coefficients of g
-pub element-is : {p : ℕ} (C : Curve (Z p)) {v : List ℕ} (g : Coordinate C .Car) → Vec p v → ((n : ℕ) → res p v n ≡ coefficient C n g) → element p C v ≡ g
+element-is : {p : ℕ} (C : Curve (Z p)) {v : List ℕ} (g : Coordinate C .Car) → Vec p v → ((n : ℕ) → res p v n ≡ coefficient C n g) → element p C v ≡ g
 element-is {p} C g h e = coefficient-ext C (λ n. element-coefficient p C h n ∙ e n)
 
 module _ (e : Equation) (h : Coefficients e) where
@@ -162,16 +162,30 @@ module _ (e : Equation) (h : Coefficients e) where
       Is p v10 (Z p .neg (C .c7)) → Is p v11 (Z p .neg (C .c8)) → Is p v12 (Z p .neg (C .a0)) →
       IsCube e ((v0 ∷ 0 ∷ 0 ∷ v3 ∷ v4 ∷ 0 ∷ v6 ∷ v7 ∷ v8 ∷ v9 ∷ v10 ∷ v11 ∷ v12 ∷ []) ++ replicate 13 0)
   cube-of {v0} {v3} {v4} {v6} {v7} {v8} {v9} {v10} {v11} {v12} i0 i3 i4 i6 i7 i8 i9 i10 i11 i12 =
-      record
-      { vec = vec; top = padded-top ns 13; cube = record { is = at-ext C (λ i j l. element-at p C (ns ++ replicate 13 0) i j l ∙ padded-res p ns (vector-cube C) 13 match (pole i j) ∙ cube-at C i j l) } }
+      record {
+        vec = vec;
+        top = padded-top ns 13;
+        cube = record {
+          is = at-ext C
+              (λ i j l. element-at p C (ns ++ replicate 13 0) i j l ∙ padded-res p ns (vector-cube C) 13 match (pole i j) ∙ cube-at C i j l);
+        };
+      }
     where
       ns : List ℕ
       ns = v0 ∷ 0 ∷ 0 ∷ v3 ∷ v4 ∷ 0 ∷ v6 ∷ v7 ∷ v8 ∷ v9 ∷ v10 ∷ v11 ∷ v12 ∷ []
 
       vec : Vec p (ns ++ replicate 13 0)
       vec =
-          record
-          { len = refl; below = padded-below p ns 13 positive (i0 .below, (positive, (positive, (i3 .below, (i4 .below, (positive, (i6 .below, (i7 .below, (i8 .below, (i9 .below, (i10 .below, (i11 .below, (i12 .below, tt))))))))))))); gap-1 = refl; gap-2 = refl; gap-5 = refl }
+          record {
+            len = refl;
+            below = padded-below p ns 13 positive (
+              i0 .below,
+              (positive, (positive, (i3 .below, (i4 .below, (positive, (i6 .below, (i7 .below, (i8 .below, (i9 .below, (i10 .below, (i11 .below, (i12 .below, tt)))))))))))),
+            );
+            gap-1 = refl;
+            gap-2 = refl;
+            gap-5 = refl;
+          }
 
       match : Match p ns (vector-cube C)
       match = (i0 .is, (el-zero p, (el-zero p, (i3 .is, (i4 .is, (el-zero p, (i6 .is, (i7 .is, (i8 .is, (i9 .is, (i10 .is, (i11 .is, (i12 .is, tt)))))))))))))
@@ -188,8 +202,16 @@ module _ (e : Equation) (h : Coefficients e) where
 
       vec : Vec p (ns ++ replicate 16 0)
       vec =
-          record
-          { len = refl; below = padded-below p ns 16 positive (h .below-c1, (positive, (positive, (i3 .below, (h .below-c4, (positive, (i6 .below, (i7 .below, (h .below-c8, (i9 .below, tt)))))))))); gap-1 = refl; gap-2 = refl; gap-5 = refl }
+          record {
+            len = refl;
+            below = padded-below p ns 16 positive (
+              h .below-c1,
+              (positive, (positive, (i3 .below, (h .below-c4, (positive, (i6 .below, (i7 .below, (h .below-c8, (i9 .below, tt))))))))),
+            );
+            gap-1 = refl;
+            gap-2 = refl;
+            gap-5 = refl;
+          }
 
       match : Match p ns (vector-x C)
       match = (refl, (el-zero p, (el-zero p, (i3 .is, (refl, (el-zero p, (i6 .is, (i7 .is, (refl, (i9 .is ∙ ap (twice (Z p)) (i .is), tt))))))))))
@@ -205,8 +227,13 @@ module _ (e : Equation) (h : Coefficients e) where
 
       vec : Vec p (ns ++ replicate 17 0)
       vec =
-          record
-          { len = refl; below = padded-below p ns 17 positive (h .below-c2, (positive, (positive, (h .below-c4, (i4 .below, (positive, (h .below-c7, (i7 .below, (i8 .below, tt))))))))); gap-1 = refl; gap-2 = refl; gap-5 = refl }
+          record {
+            len = refl;
+            below = padded-below p ns 17 positive (h .below-c2, (positive, (positive, (h .below-c4, (i4 .below, (positive, (h .below-c7, (i7 .below, (i8 .below, tt)))))))));
+            gap-1 = refl;
+            gap-2 = refl;
+            gap-5 = refl;
+          }
 
       match : Match p ns (vector-y C)
       match = (refl, (el-zero p, (el-zero p, (refl, (i4 .is, (el-zero p, (refl, (i7 .is, (i8 .is ∙ ap (thrice (Z p)) (el-one p), tt)))))))))

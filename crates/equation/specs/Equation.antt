@@ -6,14 +6,12 @@
 --   DerivativeX, DerivativeY       … of the normal forms of Fx and Fy
 --   TestAsked              nonsingular: what the test requires
 use mathlib.Core.Path.{_≡_}
-use mathlib.Core.Bool.{Bool, true, false}
 use mathlib.Core.List.{List}
 use Prim.Native.Nat.{ℕ, _<_}
 use Rattle.algebra.specs.Ring.{CommRing}
 use Rattle.prime.specs.Prime.{Prime}
 use Rattle.field.specs.Residue.{Z, el}
 use Rattle.curve.specs.Curve.{Curve}
-use Rattle.nonsingular.specs.Nonsingular.{Nonsingular}
 use Rattle.nonsingular.specs.Derivative.{derivative-x, derivative-y}
 use Rattle.vector.specs.Vector.{Vec, Top, element}
 use Rattle.multiplication.specs.Contract.{Cube}

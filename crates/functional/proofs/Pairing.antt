@@ -1,7 +1,7 @@
 -- Values of a functional given by a vector lam of residues, as sums of products.
 --   apply-pairing      at x^(s/3)·v: the sum of lam[n]·v[n − s] from a place up to which the products are 0
 --   shifted-mono       mono n·x^(h/3)·g is y^j·g shifted by n − 4·j + h, j the class of n
-use mathlib.Core.Path.{_≡_, sym, _∙_, ap, ap₂}
+use mathlib.Core.Path.{_≡_, sym, _∙_, ap}
 use mathlib.Core.List.{List}
 use mathlib.Core.Logic.{_⊎_, ⊎-elim}
 use Prim.Native.Nat.{ℕ, zero, suc, _+_, _*_, _-_, _/_, _%_, _<_, _≤_}

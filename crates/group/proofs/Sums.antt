@@ -4,7 +4,6 @@
 --   sum-left, sum-right    with a divisor of kind 0 the other one
 --   sum-equivalent         the product is equivalent to the ideal of the sum
 use mathlib.Core.Path.{_≡_}
-use mathlib.Core.List.{List}
 use Prim.Native.Nat.{ℕ}
 use Rattle.algebra.specs.Ring.{CommRing}
 use Rattle.ideal.specs.Ideal.{SameIdeal, Product, Equivalent}

@@ -12,7 +12,6 @@
 --   InXY r                 r is a polynomial in x and y; inxy-all: so is every element of R
 --   xy-times, xy-ideal     a space that is closed under x and y is an ideal
 --   span-ideal             Span bs is an ideal if it holds y·b for each b
---   span-generated         … and then it is the ideal that bs generates
 --   span-product           the product of Span bs and Span cs is the span of the products
 use mathlib.Core.Path.{_≡_, refl, sym, _∙_, ap, subst}
 use mathlib.Core.Logic.{_⊎_, inl, inr}
@@ -22,14 +21,14 @@ use native.Mathlib.Decide.{ℕ-discrete}
 use native.Mathlib.Omega.{arith}
 use Rattle.algebra.specs.Ring.{CommRing}
 use Rattle.algebra.proofs.Laws as laws
-use Rattle.ideal.specs.Ideal.{IsIdeal, Generated, Product, none, more, SameIdeal}
+use Rattle.ideal.specs.Ideal.{IsIdeal, Product, none, more, SameIdeal}
 use Rattle.ideal.specs.Poles.{IsPole, Poles, HasPole}
 use Rattle.ideal.proofs.Gaps.{pole-apart, pole-intro}
 use Rattle.ideal.proofs.Degree.{below-scale, degree, mono-has, one-pole, pole-add, pole-at, pole-below, pole-cong, pole-mul, pole-nonzero, pole-number, pole-unique}
 use Rattle.ideal.proofs.Every.{Every, every-map}
-use Rattle.ideal.proofs.Leads.{IsSpace, ideal-space, Lead, lowering}
+use Rattle.ideal.proofs.Leads.{IsSpace, Lead, lowering}
 use Rattle.ideal.proofs.Product.{product-sum, product-times}
-use Rattle.ideal.proofs.Generated.{products, products-each, products-source, generated-ideal, generated-each, generated-in}
+use Rattle.ideal.proofs.Generated.{products, products-each, products-source}
 use Rattle.ideal.proofs.Rules.{ring}
 
 module _ {R : CommRing} (P : Poles R) where
@@ -221,12 +220,6 @@ module _ {R : CommRing} (P : Poles R) where
 
   pub span-ideal : (bs : List Car) → Every (λ b. Span bs (y ⊗ b)) bs → IsIdeal R (Span bs)
   span-ideal bs ms = xy-ideal (span-space bs) (span-x bs) (span-taken y bs bs ms)
-
-  pub span-generated : (bs : List Car) → Every (λ b. Span bs (y ⊗ b)) bs → SameIdeal R (Span bs) (Generated R bs)
-  span-generated bs ms h = (
-    span-in (ideal-space P (generated-ideal R bs)) (λ u. generated-ideal R bs .times x) bs (generated-each R bs) h,
-    generated-in R (span-ideal bs ms) bs (span-each bs) h,
-  )
 
   span-products : (bs cs : List Car) → Every (λ b. Every (λ c. Span (products R bs cs) (b ⊗ c)) cs) bs
   span-products bs cs = products-source R (Span (products R bs cs)) bs cs (span-each (products R bs cs))

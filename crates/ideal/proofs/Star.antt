@@ -3,17 +3,15 @@
 --   star-exists            a based ideal with a nonzero element has a star
 --   star-unique            … and only one
 --   star-small             the star has a small footprint
---   star-back              if K is the star of A with a small footprint, then A is the star of K
 use mathlib.Core.Path.{subst}
 use Rattle.algebra.specs.Ring.{CommRing}
 use Rattle.ideal.specs.Ideal.{IsIdeal, Colon, SameIdeal}
 use Rattle.ideal.specs.Poles.{Poles}
 use Rattle.ideal.specs.Reduced.{Least, IsStar, IsReduced}
 use Rattle.ideal.proofs.Same.{same-refl, same-sym, same-trans}
-use Rattle.ideal.proofs.Degree.{monic-pole}
 use Rattle.ideal.proofs.Leads.{ideal-space, least, least-same, least-unique}
-use Rattle.ideal.proofs.Colon.{colon-same, colon-colon}
-use Rattle.ideal.proofs.Reduced.{SmallFootprint, footprint-same, footprint-least, star-footprint}
+use Rattle.ideal.proofs.Colon.{colon-same}
+use Rattle.ideal.proofs.Reduced.{SmallFootprint, footprint-same, star-footprint}
 use Rattle.ideal.proofs.Finite.{BasedIdeal}
 
 module _ {R : CommRing} (P : Poles R) where
@@ -50,10 +48,3 @@ module _ {R : CommRing} (P : Poles R) where
 
   pub star-small : {J K : Car → Type 0} → BasedIdeal P J → IsStar P J K → SmallFootprint P K
   star-small b s = footprint-same P (same-sym R (s .same)) (star-footprint P (b .ideal) (b .based) (s .least))
-
-  pub star-back : {A K : Car → Type 0} → SmallFootprint P A → IsStar P A K → IsStar P K A
-  star-back a s = record {
-    f = s .f;
-    least = least-same P (same-sym R (s .same)) (footprint-least P a (s .least));
-    same = same-trans R (same-sym R (colon-colon P (monic-pole P (s .least .monic)) (a .ideal) (a .based) (s .least .member))) (colon-same R (s .f) (same-sym R (s .same)));
-  }

@@ -60,7 +60,8 @@ module _ {R : CommRing} (P : Poles R) where
   span-step bs {b} {d} {n} pb apart (h, (p, s, i, m, e), ph) =
       ⊎-elim (λ l. inl (ray-lead pb l)) inr (sum-lead P {U = Ray b} {W = Span P bs} (λ k lr ls. apart k ls (ray-lead pb lr)) (p, i, refl) m (pole-cong P e ph))
 
-  module _ {b₀ b₁ b₂ : Car} {d₀ d₁ d₂ : ℕ} (p₀ : HasPole P b₀ d₀) (p₁ : HasPole P b₁ d₁) (p₂ : HasPole P b₂ d₂) (a₀₁ : ¬ (d₀ % 3 ≡ d₁ % 3)) (a₀₂ : ¬ (d₀ % 3 ≡ d₂ % 3)) (a₁₂ : ¬ (d₁ % 3 ≡ d₂ % 3)) where
+  module _ {b₀ b₁ b₂ : Car} {d₀ d₁ d₂ : ℕ} (p₀ : HasPole P b₀ d₀) (p₁ : HasPole P b₁ d₁) (p₂ : HasPole P b₂ d₂)
+      (a₀₁ : ¬ (d₀ % 3 ≡ d₁ % 3)) (a₀₂ : ¬ (d₀ % 3 ≡ d₂ % 3)) (a₁₂ : ¬ (d₁ % 3 ≡ d₂ % 3)) where
     last-lead : (n : ℕ) → Lead P (Span P (b₂ ∷ [])) n → Reach d₂ n
     last-lead n l = ⊎-elim (λ r. r) (λ (u, e, p). absurd (pole-nonzero P p e)) (span-step [] p₂ (λ m (u, e, p) _. pole-nonzero P p e) l)
 

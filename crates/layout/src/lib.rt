@@ -1,7 +1,7 @@
 // The bytes of a record: reading and writing little-endian numbers in a slice of bytes, and whole records.
 // specs/Layout.antt says what the numbers and the bytes are.
 ghost use mathlib.Core.Path.{_≡_};
-ghost use mathlib.Core.List.{[], _∷_, _++_};
+ghost use mathlib.Core.List.{_++_};
 ghost use Prim.Native.Nat.{_+_, _*_, _≤_, _<_};
 ghost use lib.ListN.{getD, take, drop};
 ghost use Rattle.layout.specs.Layout.{bytes2, bytes4, all-bytes4, record-bytes};

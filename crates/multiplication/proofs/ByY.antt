@@ -189,7 +189,8 @@ module _ {p top n : ℕ} {f v r : List ℕ} (h : TimesYAsked p f v top) (t : YPa
           ∙ ap (Coordinate C .mul (y C)) (sym step)
         where
           step :
-              portion p C v (Reached (n + 3)) (reached (n + 3)) ≡ Coordinate C .add (portion p C v (Reached n) (reached n)) (Coordinate C .mul (scalar p C (at v n)) (Coordinate C .mul (x-to p C i) (Coordinate C .mul (y C) (Coordinate C .mul (y C) (Coordinate C .one)))))
+              portion p C v (Reached (n + 3)) (reached (n + 3)) ≡ Coordinate C .add (portion p C v (Reached n) (reached n))
+              (Coordinate C .mul (scalar p C (at v n)) (Coordinate C .mul (x-to p C i) (Coordinate C .mul (y C) (Coordinate C .mul (y C) (Coordinate C .one)))))
           step =
               portion-step p C v (Reached n) (reached n) (Reached (n + 3)) (reached (n + 3)) i 2 (omega arith) none (inr (omega (arith, here))) more less
               ∙ ap₂ (λ m w. Coordinate C .add (portion p C v (Reached n) (reached n)) (Coordinate C .mul (scalar p C (at v m)) (Coordinate C .mul (x-to p C i) w))) here (y-two p C)

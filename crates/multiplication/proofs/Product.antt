@@ -3,7 +3,7 @@
 --   TimesPart          the loop's invariant
 --   part-start part-more part-skip part-end       its start, its two ways of a turn and its end
 --   turn-asked turn-more turn-skip     what a turn asks, and its two ways, by the table's entry at n
-use mathlib.Core.Path.{_≡_, refl, sym, _∙_, ap, ap₂, subst}
+use mathlib.Core.Path.{_≡_, sym, _∙_, ap, ap₂, subst}
 use mathlib.Core.List.{List}
 use mathlib.Core.Logic.{inl, inr}
 use Prim.Native.Nat.{ℕ, _+_, _*_, _-_, _/_, _%_, _≤_, _<_}
@@ -61,7 +61,7 @@ ordered : (R : CommRing) (u g s x y : R .Car) → R .add (R .mul u g) (R .mul (R
 ordered R = solve R 5 (λ u g s x y. u ⊠ g ⊞ s ⊠ x ⊠ (y ⊠ g)) (λ u g s x y. (u ⊞ s ⊠ (x ⊠ y)) ⊠ g) tt
 
 module _ {p e top n : ℕ} {b : List ℕ} {ys : List (List ℕ)} {r : List ℕ} (h : TimesAsked p b e ys top) (t : TimesPart p b n ys top r) (l : n < e) where
-  pub part-asked : 4 * (n % 3) ≤ n → AxpyAsked p r (at b n) (row ys (n % 3)) (n - 4 * (n % 3)) (top + 4 * (n % 3))
+  part-asked : 4 * (n % 3) ≤ n → AxpyAsked p r (at b n) (row ys (n % 3)) (n - 4 * (n % 3)) (top + 4 * (n % 3))
   part-asked q =
       record {
         r-vec = t .vec;
@@ -93,7 +93,8 @@ module _ {p e top n : ℕ} {b : List ℕ} {ys : List (List ℕ)} {r : List ℕ} 
           here = omega arith
 
           step :
-              portion p C b (First (n + 1)) (first (n + 1)) ≡ Coordinate C .add (portion p C b (First n) (first n)) (Coordinate C .mul (scalar p C (at b n)) (Coordinate C .mul (x-to p C i) (y-to p C (n % 3))))
+              portion p C b (First (n + 1)) (first (n + 1)) ≡ Coordinate C .add (portion p C b (First n) (first n))
+              (Coordinate C .mul (scalar p C (at b n)) (Coordinate C .mul (x-to p C i) (y-to p C (n % 3))))
           step =
               portion-step p C b (First n) (first n) (First (n + 1)) (first (n + 1)) i (n % 3) (omega arith) (omega (arith, here))
               (omega (arith, here)) (λ m k. omega arith) (λ m d k. omega (arith, here))

@@ -87,10 +87,10 @@ module _ (A : CommRing) where
     pub coef-cubic-0 : coef A (cubic t0 t1 t2) 0 ≡ t0
     coef-cubic-0 = ap (λ f. coef A f 0) cubic-split ∙ coef-split-head A _ _
 
-    pub coef-cubic-1 : coef A (cubic t0 t1 t2) 1 ≡ t1
+    coef-cubic-1 : coef A (cubic t0 t1 t2) 1 ≡ t1
     coef-cubic-1 = ap (λ f. coef A f 1) cubic-split ∙ coef-split-next A _ _ 0 ∙ coef-split-head A _ _
 
-    pub coef-cubic-2 : coef A (cubic t0 t1 t2) 2 ≡ t2
+    coef-cubic-2 : coef A (cubic t0 t1 t2) 2 ≡ t2
     coef-cubic-2 = ap (λ f. coef A f 2) cubic-split ∙ coef-split-next A _ _ 1 ∙ coef-split-next A _ _ 0 ∙ coef-split-head A _ _
 
     pub coef-cubic-3 : coef A (cubic t0 t1 t2) 3 ≡ 𝟙

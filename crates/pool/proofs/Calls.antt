@@ -6,7 +6,7 @@
 --   wrote                  it wrote a record
 --   made-short, made-long  what a call with a short buffer leaves, and another one
 use mathlib.Core.Path.{_≡_, refl, sym, ap, ap₂, _∙_, subst}
-use mathlib.Core.List.{List, [], _∷_, _++_, List·Permᴰ}
+use mathlib.Core.List.{List, [], _∷_, _++_}
 use Prim.Native.Nat.{ℕ, suc, _+_, _-_, _*_, _<_, _≤_}
 use native.Mathlib.Omega.{arith}
 use lib.ListN.{length, getD, take, drop, length-drop, List·getD-append}
@@ -14,7 +14,6 @@ use lib.Seq.{getD-take, getD-drop, ext-getD, length-take-le, take-append-seam}
 use lib.IntN.{ℤ, pos}
 use Rattle.layout.specs.Layout.{number2}
 use Rattle.record.specs.Curve.{AcceptedCurve, curve-stages}
-use Rattle.calls.specs.Answer.{minus}
 use Rattle.calls.specs.Class.{Record, IsSum}
 use Rattle.calls.specs.Call.{Sum, divisor-of, room}
 use Rattle.calls.specs.Pool.{PoolCall, entry, without, amount, written-by, pool-after, IsCall}
@@ -22,14 +21,14 @@ use Rattle.calls.proofs.Places.{long-enough, too-short, without-both, perm-leng
 use Rattle.calls.proofs.Exists.{two-passes}
 use Rattle.calls.proofs.Answers.{Answered, short, enough, answer, two-sound, record-fits}
 use Rattle.pool.specs.Held.{slot, at-slot, Held, Copied}
-use Rattle.pool.specs.Run.{InSlot, Accepted, CallMade, left-of}
+use Rattle.pool.specs.Run.{InSlot, Accepted, CallMade}
 use Rattle.pool.proofs.Slots.{held-more, length-more}
 
 module _ (c s : List ℕ) (p : List (List ℕ)) (held : Held s p) (accepted : Accepted c p) (m : ℕ) (below : m < length p) where
   fits : (4 ≤ length (entry p m)) × (length (entry p m) ≤ room)
   fits = record-fits c (entry p m) (accepted m below)
 
-  pub length-field : number2 s (slot m) ≡ length (entry p m)
+  length-field : number2 s (slot m) ≡ length (entry p m)
   unfolding number2
   length-field =
       ap₂ (λ (a b : ℕ). a + 256 * b) (ap (λ (k : ℕ). getD s k 0) (omega arith) ∙ held .bytes m 0 below (omega (arith, fits .0)))

@@ -2,7 +2,7 @@
 --   sizes                  both slots have a length field, and the bytes that it gives
 --   cast-fits, copy-fits   the length that a call returned fits, in the pool and in the buffer
 --   step-short, step-long  what a call with a short buffer leaves, and another one
-use mathlib.Core.Path.{_≡_, refl, sym, ap, _∙_, subst}
+use mathlib.Core.Path.{_≡_, sym, ap, _∙_, subst}
 use mathlib.Core.List.{List}
 use Prim.Native.Nat.{ℕ, _+_, _-_, _*_, _<_, _≤_}
 use native.Mathlib.Omega.{arith}

@@ -5,17 +5,15 @@
 --   valid-next             there is one, if the list is not empty
 --   take-three             three numbers more
 --   Going c s₀ n cs l s left at    the calls below place `at` of cs are made on the n records of s₀, and s holds the records left
---   going-none, going-next, going-asked, going-more, going-all    the loop over the calls
-use mathlib.Core.Path.{_≡_, refl, sym, ap, ap₂, _∙_, subst}
+--   going-none, going-three, going-small, going-asked, going-more, going-all    the loop over the calls
+use mathlib.Core.Path.{_≡_, refl, sym, ap, _∙_, subst}
 use mathlib.Core.List.{List, [], _∷_, _++_, append-assoc}
-use Prim.Native.Nat.{ℕ, zero, suc, _+_, _-_, _<_, _≤_}
-use native.Mathlib.Numerals.{add-one}
+use Prim.Native.Nat.{ℕ, suc, _+_, _<_, _≤_}
 use native.Mathlib.Omega.{arith}
 use lib.ListN.{length, getD, take, drop, length-drop}
 use lib.Seq.{take-suc, take-all, getD-drop, drop-drop}
-use Rattle.record.specs.Curve.{AcceptedCurve, modulus, equation}
-use Rattle.calls.specs.Class.{Record}
-use Rattle.calls.specs.Pool.{PoolCall, entry, pool-after, pool-of, groups-of, alone, IsCall, Made, PoolEnd}
+use Rattle.record.specs.Curve.{AcceptedCurve}
+use Rattle.calls.specs.Pool.{PoolCall, pool-after, pool-of, groups-of, alone, IsCall, Made}
 use Rattle.calls.proofs.Together.{together-entry}
 use Rattle.calls.proofs.Step.{Good}
 use Rattle.calls.proofs.Pairs.{parts-bytes, start, run, adding-by-pairs}
@@ -75,7 +73,7 @@ take-three cs at h =
     one : (k m : ℕ) → m ≡ suc k → k < length cs → take m cs ≡ take k cs ++ getD cs k 0 ∷ []
     one k m e l = ap (λ (n : ℕ). take n cs) e ∙ take-suc cs k 0 l
 
-pub ran-more : (c : List ℕ) (rs : List (List ℕ)) (cs s : List ℕ) (r : ℕ) (i j : ℕ) (out s′ : List ℕ) (r′ : ℕ) → (h : Ran c rs cs s r)
+ran-more : (c : List ℕ) (rs : List (List ℕ)) (cs s : List ℕ) (r : ℕ) (i j : ℕ) (out s′ : List ℕ) (r′ : ℕ) → (h : Ran c rs cs s r)
     → CallMade c (pool-of (h .calls) rs) i j out s′ r′ → Ran c rs (cs ++ (i ∷ j ∷ length out ∷ [])) s′ r′
 ran-more c rs cs s r i j out s′ r′ h m = record {
   calls = h .calls ++ m .call ∷ [];

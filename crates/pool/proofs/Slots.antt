@@ -8,17 +8,17 @@
 use mathlib.Core.Path.{_≡_, refl, sym, ap, _∙_, subst}
 use mathlib.Core.List.{List, [], _∷_, _++_, append-nil}
 use mathlib.Core.Bool.{Bool, true, false}
-use Prim.Native.Nat.{ℕ, zero, suc, _+_, _*_, _<_, _≤_}
+use Prim.Native.Nat.{ℕ, suc, _+_, _<_, _≤_}
 use native.Mathlib.Numerals.{add-one}
 use native.Mathlib.Omega.{arith}
 use native.Mathlib.Decide.{ℕ-discrete}
-use lib.ListN.{length, getD, take, drop, set, length-set, length-append, List·getD-append}
+use lib.ListN.{length, getD, take, set, length-set, length-append, List·getD-append}
 use lib.Seq.{getD-set-same, getD-set-other, getD-append-seam, take-suc, take-all, length-take-le}
 use lib.Dec.{eqb}
 use Rattle.calls.specs.Call.{room}
 use Rattle.calls.specs.Pool.{entry, pick, without, without-from}
 use Rattle.calls.proofs.Places.{same-place, other-place}
-use Rattle.pool.specs.Held.{slot, Held, Copied, Passed, first, second, other, Closed}
+use Rattle.pool.specs.Held.{slot, Held, Copied, Passed, first, second, other}
 
 pub copied-none : (s : List ℕ) (at : ℕ) (t : List ℕ) (from : ℕ) → Copied s at t from 0 s
 copied-none s at t from = record { long = refl; here = λ k l. absurd (omega arith); before = λ k l. refl; after = λ k l. refl }
@@ -101,10 +101,10 @@ module _ {A : Type 0} where
     split : without i j (xs ++ x ∷ []) ≡ without i j xs ++ left (length xs) i j x
     split = without-more 0 i j xs x ∙ ap (λ (m : ℕ). without i j xs ++ left m i j x) (omega arith)
 
-    pub without-first : length xs ≡ i → without i j (xs ++ x ∷ []) ≡ without i j xs
+    without-first : length xs ≡ i → without i j (xs ++ x ∷ []) ≡ without i j xs
     without-first e = split ∙ ap (λ (t : List A). without i j xs ++ t) (same-place (length xs) i _ _ e) ∙ append-nil (without i j xs)
 
-    pub without-second : length xs ≡ j → without i j (xs ++ x ∷ []) ≡ without i j xs
+    without-second : length xs ≡ j → without i j (xs ++ x ∷ []) ≡ without i j xs
     without-second e =
         split
         ∙ ap (λ (t : List A). without i j xs ++ pick (eqb (length xs) i) [] t) (same-place (length xs) j _ _ e)
@@ -115,7 +115,7 @@ module _ {A : Type 0} where
         both true = refl
         both false = refl
 
-    pub without-other : ¬ (length xs ≡ i) → ¬ (length xs ≡ j) → without i j (xs ++ x ∷ []) ≡ without i j xs ++ x ∷ []
+    without-other : ¬ (length xs ≡ i) → ¬ (length xs ≡ j) → without i j (xs ++ x ∷ []) ≡ without i j xs ++ x ∷ []
     without-other a b =
         split
         ∙ ap (λ (t : List A). without i j xs ++ t) (other-place (length xs) i _ _ a ∙ other-place (length xs) j _ _ b)

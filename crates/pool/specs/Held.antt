@@ -6,9 +6,8 @@
 --   Passed s w m i j s′ r  slot m is left out where m is i or j; else it is copied to slot w; r is the next slot to write
 --   Closed s n i j s′      the records i and j leave a pool of n records, and the rest close up
 use mathlib.Core.Path.{_≡_}
-use mathlib.Core.Logic.{_⊎_}
 use mathlib.Core.List.{List}
-use Prim.Native.Nat.{ℕ, suc, _+_, _*_, _<_, _≤_}
+use Prim.Native.Nat.{ℕ, _+_, _*_, _<_, _≤_}
 use lib.ListN.{length, getD, take, drop}
 use Rattle.layout.specs.Layout.{number2}
 use Rattle.calls.specs.Call.{room}

@@ -1,5 +1,4 @@
 // A list of sum calls, carried out on a pool of records in lent memory: slots of 40 bytes, slot m from place 40·m on.
-ghost use mathlib.Core.Path.{_≡_};
 ghost use Prim.Native.Nat.{_+_, _*_, _≤_, _<_};
 ghost use lib.ListN.{length};
 ghost use Rattle.calls.specs.Call.{Sum};

@@ -2,17 +2,16 @@
 --   curve-sound, divisor-sound, next-sound, list-sound    what is checked refuses nothing that it passes, and with one number only
 --   joined-append, accepted-append    two runs of records one after the other
 --   next-accepted      where an accepted record starts, the next stages are passed
---   next-record, next-step    where the next stages are passed, an accepted record starts: one record more is read
 --   front-same         bytes start with at most one accepted record
 --   listed-once        a list is at most one row of accepted records
 --   listed-refused     a list that is accepted is not refused
 --   refused-once       a list is refused with at most one number
 --   listed-short       four bytes at least for each record
 use mathlib.Core.Path.{_≡_, refl, sym, ap, ap₂, _∙_, subst}
-use mathlib.Core.List.{List, [], _∷_, _++_, append-assoc, append-nil}
+use mathlib.Core.List.{List, [], _∷_, _++_, append-assoc}
 use Prim.Native.Nat.{ℕ, _*_, _<_, _≤_}
 use native.Mathlib.Omega.{arith}
-use lib.ListN.{length, take, drop, length-append, take-append-drop}
+use lib.ListN.{length, take, drop, length-append}
 use lib.Seq.{take-at, drop-at}
 use Rattle.field.specs.Residue.{Z}
 use Rattle.curve.specs.Curve.{Curve}
@@ -43,13 +42,13 @@ module _ (p : ℕ) (C : Curve (Z p)) where
   accepted-append (r ∷ rs) ts a b = (a .0, accepted-append rs ts (a .1) b)
 
   module _ (r t : List ℕ) (a : AcceptedDivisor p C r) where
-    pub front-length : number2 (r ++ t) 0 ≡ length r
+    front-length : number2 (r ++ t) 0 ≡ length r
     front-length = number2-append r t 0 (omega (arith, a .0 .0)) ∙ a .0 .1
 
-    pub front-record : take (number2 (r ++ t) 0) (r ++ t) ≡ r
+    front-record : take (number2 (r ++ t) 0) (r ++ t) ≡ r
     front-record = take-at r t (number2 (r ++ t) 0) (sym front-length)
 
-    pub front-rest : drop (number2 (r ++ t) 0) (r ++ t) ≡ t
+    front-rest : drop (number2 (r ++ t) 0) (r ++ t) ≡ t
     front-rest = drop-at r t (number2 (r ++ t) 0) (sym front-length)
 
     pub next-accepted : Passes (next-stages p C (r ++ t))
@@ -60,21 +59,6 @@ module _ (p : ℕ) (C : Curve (Z p)) where
         subst (λ (s : List ℕ). AcceptedDivisor p C s) (sym front-record) a,
       ),
     )
-
-  pub next-record : (s : List ℕ) → Passes (next-stages p C s) → AcceptedDivisor p C (take (number2 s 0) s)
-  next-record s h = h .1 .1
-
-  pub next-step : (before : List (List ℕ)) (left : List ℕ) → Passes (next-stages p C left) → AllAccepted p C before
-      → (joined before ++ left ≡ joined (before ++ (take (number2 left 0) left ∷ [])) ++ drop (number2 left 0) left)
-      × AllAccepted p C (before ++ (take (number2 left 0) left ∷ []))
-  next-step before left h a =
-      let n = number2 left 0 in
-      let one : joined (take n left ∷ []) ≡ take n left = append-nil (take n left) in (
-        ap (λ (t : List ℕ). joined before ++ t) (sym (take-append-drop n left))
-            ∙ sym (append-assoc (joined before) (take n left) (drop n left))
-            ∙ ap (λ (t : List ℕ). t ++ drop n left) (ap (λ (t : List ℕ). joined before ++ t) (sym one) ∙ sym (joined-append before (take n left ∷ []))),
-        accepted-append before (take n left ∷ []) a (next-record left h, tt),
-      )
 
   pub front-same : (r t r′ t′ : List ℕ) → AcceptedDivisor p C r → AcceptedDivisor p C r′ → r ++ t ≡ r′ ++ t′ → (r ≡ r′) × (t ≡ t′)
   front-same r t r′ t′ a a′ e = (

@@ -12,8 +12,7 @@ use mathlib.Core.List.{List}
 use Prim.Native.Nat.{ℕ, _<_, _≤_}
 use native.Mathlib.Omega.{arith}
 use lib.ListN.{length}
-use Rattle.algebra.specs.Ring.{CommRing, Field}
-use Rattle.prime.specs.Prime.{Prime}
+use Rattle.algebra.specs.Ring.{CommRing}
 use Rattle.field.specs.Residue.{Z}
 use Rattle.prime_field.specs.Field.{F}
 use Rattle.ideal.specs.Ideal.{SameIdeal, Generated, IsIdeal}
@@ -113,7 +112,7 @@ module _ {p : ℕ} (S : Setting p) where
     pub record-reduced : {J : ring S .Car → Type 0} → BasedIdeal (poles-of S) J → OneRecord (ReducedRecord J)
     record-reduced j = from-record (j .ideal) (record-of (F p (S .prime)) (S .curve) (S .nonzero) j)
 
-    pub generated-reduced : (gs : List (ring S .Car)) → ¬ Every (λ g. g ≡ ring S .zero) gs → OneRecord (ReducedRecord (Generated (ring S) gs))
+    generated-reduced : (gs : List (ring S .Car)) → ¬ Every (λ g. g ≡ ring S .zero) gs → OneRecord (ReducedRecord (Generated (ring S) gs))
     generated-reduced gs h = from-record (generated-ideal (ring S) gs) (record-suffices (F p (S .prime)) (S .curve) (S .nonzero) gs h)
 
 -- On an accepted curve c, for all elements gs of its ring that are not all zero, exactly one string of bytes is the record of the reduced ideal

@@ -10,14 +10,14 @@ use Prim.Native.Nat.{ℕ, zero, suc, _+_, _*_, _<_, _≤_}
 use native.Mathlib.Omega.{arith}
 use lib.ListN.{length, getD}
 use lib.Seq.{ext-getD}
-use Rattle.algebra.specs.Ring.{CommRing, Field}
+use Rattle.algebra.specs.Ring.{CommRing}
 use Rattle.field.specs.Residue.{Z, el, num}
 use Rattle.field.proofs.Element.{el-inj, el-num, num-lt}
 use Rattle.prime_field.specs.Field.{F}
 use Rattle.ideal.specs.Ideal.{SameIdeal}
 use Rattle.curve.specs.Curve.{Curve, Coordinate}
 use Rattle.divisor.specs.Kind.{Kind, code, count, size, IdealOf, IsBasis}
-use Rattle.divisor.proofs.Unique.{SameRecord, record-unique}
+use Rattle.divisor.proofs.Unique.{record-unique}
 use Rattle.layout.specs.Layout.{Bytes, Words, number4, numbers, record-bytes}
 use Rattle.layout.proofs.Bytes.{bytes-record}
 use Rattle.layout.proofs.Read.{length-numbers, numbers-at}

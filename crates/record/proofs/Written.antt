@@ -9,12 +9,12 @@
 --   Holds κ s r        the value r has the kind κ and the numbers of the record s
 --   read-back          an accepted record is the record of the value that has its kind and numbers
 --   read-based         such a value is a basis
-use mathlib.Core.Path.{_≡_, sym, ap, _∙_, subst}
+use mathlib.Core.Path.{_≡_, sym, ap, _∙_}
 use mathlib.Core.Logic.{Iff·trans}
-use mathlib.Core.List.{List, [], _∷_, _++_, append-nil}
+use mathlib.Core.List.{List, [], _∷_, append-nil}
 use Prim.Native.Nat.{ℕ, zero, suc, _+_, _*_, _<_, _≤_}
 use native.Mathlib.Omega.{arith}
-use lib.ListN.{length, getD, take, drop}
+use lib.ListN.{length, getD, take}
 use lib.Seq.{getD-take, length-take-le, ext-getD}
 use Rattle.algebra.specs.Ring.{CommRing}
 use Rattle.field.specs.Residue.{Z, el}
@@ -34,7 +34,7 @@ use Rattle.divisor.proofs.Codes.{code-small, count-small, ideal-same, basis-sam
 use Rattle.record.proofs.Accepted.{Reads, reads-accepted, reads-whole, ideal-reads}
 
 -- the first numbers of a list are below what all of them are below
-pub take-below : (b c : ℕ) (l : List ℕ) → 0 < b → ((i : ℕ) → getD l i 0 < b) → (i : ℕ) → getD (take c l) i 0 < b
+take-below : (b c : ℕ) (l : List ℕ) → 0 < b → ((i : ℕ) → getD l i 0 < b) → (i : ℕ) → getD (take c l) i 0 < b
 take-below b zero l pos h i = pos
 take-below b (suc c) [] pos h i = pos
 take-below b (suc c) (a ∷ l) pos h zero = h 0
@@ -60,7 +60,7 @@ module _ (κ : Kind) (ns : List ℕ) (many : length ns ≡ count κ) where
       sym (numbers-at s 4 (length ns) i (omega arith)) ∙ ap (λ (l : List ℕ). getD l i 0) all
 
   module _ (p : ℕ) (C : Curve (Z p)) (w : Words ns) where
-    pub written-residue : (i : ℕ) → i < count κ → number-at p (record-bytes (code κ) ns) i ≡ el p (getD ns i 0)
+    written-residue : (i : ℕ) → i < count κ → number-at p (record-bytes (code κ) ns) i ≡ el p (getD ns i 0)
     written-residue i h = ap (el p) (written-number w i h)
 
     pub written-reads : ((i : ℕ) → i < count κ → getD ns i 0 < p) → IsBasis C κ (λ i. el p (getD ns i 0)) → Reads p C κ (record-bytes (code κ) ns)
@@ -112,7 +112,7 @@ module _ (p : ℕ) (C : Curve (Z p)) (fits : p ≤ 4294967296) (κ : Kind) (r : 
   words-of : Shaped p κ r → (i : ℕ) → getD (numbers r) i 0 < 4294967296
   words-of h i = omega (arith, h .below i)
 
-  pub bytes-of-residue : Shaped p κ r → (i : ℕ) → i < count κ → number-at p (bytes-of κ r) i ≡ residues p r i
+  bytes-of-residue : Shaped p κ r → (i : ℕ) → i < count κ → number-at p (bytes-of κ r) i ≡ residues p r i
   bytes-of-residue h i l = ap (el p) (bytes-of-number κ r (words-of h) i l)
 
   pub bytes-of-reads : Based p C κ r → Reads p C κ (bytes-of κ r)

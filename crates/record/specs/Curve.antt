@@ -1,5 +1,7 @@
 -- Curve records in bytes. Document 01: kind 34, length 44, the numbers p, c0 to c8.
+--   curve-kind, curve-size     34 and 44
 --   modulus s          p
+--   coefficient-number s i     the number of the coefficient ci
 --   equation s         the curve over the residues modulo p: F = y³ + x⁴ + c8·xy² + … + c0
 --   curve-form s       what is checked of a curve's bytes, in order: 1 for size, 2, 1 for the kind's length
 --   prime-stage p      3
@@ -8,14 +10,14 @@
 --   curve-rest p C c   what is checked behind the form, in order: 3, 4, 5
 --   curve-stages s     the form, and then the rest
 --   AcceptedCurve s    all of it holds
---   accepted-prime, accepted-limit, accepted-below     what an accepted curve has passed
+--   accepted-rest, accepted-prime, accepted-limit, accepted-below     what an accepted curve has passed
 --   setting-of         the prime and the curve of an accepted record
 --   limit              the largest modulus, 2147483647
 use mathlib.Core.Path.{_≡_}
 use mathlib.Core.List.{List, [], _∷_, _++_}
 use Prim.Native.Nat.{ℕ, _+_, _*_, _<_, _≤_}
 use lib.ListN.{length}
-use Rattle.algebra.specs.Ring.{CommRing, Field}
+use Rattle.algebra.specs.Ring.{CommRing}
 use Rattle.prime.specs.Prime.{Prime}
 use Rattle.field.specs.Residue.{Z, el}
 use Rattle.prime_field.specs.Field.{F}

@@ -3,6 +3,7 @@
 --   joined rs            the bytes of the records rs, one after another
 --   next-stages p C s    what is checked of the record that starts at s, with s the bytes left: 6 for 1 to 3 left, for a length field under
 --                        4 or above the bytes left; then what is checked of a divisor, of the part that the length field gives
+--   AllAccepted p C rs   the records rs are accepted
 --   Listed p C s rs      the list s is the accepted records rs one after another
 --   ListRefused p C s n  some accepted records, and then one that is refused with n
 --   list-stage p C s     the stage of a list: its records from first to last

@@ -6,6 +6,7 @@
 --   share-line t n           the line of the share, for t typical records among n
 --   count-line name n        a line with a name and a number
 --   count-lines              the lines of the five kinds, by their counts
+--   spaced ns                each number behind a space
 --   sum-line w               the line of the sum, whose record is w
 --   lines rs w               all that is printed for the records rs with the sum w
 --   refused-line n           all that is printed for the refusal n

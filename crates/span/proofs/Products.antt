@@ -2,8 +2,9 @@
 --   Putting                insert_products' invariant: i members of the first triple have been put in
 --   put-start, times-asked, put-asked, put-more, put-end
 --   Multiplying            product's invariant: all products with the first j members of the second triple have been put in
---   multiply-start, multiply-asked, multiply-more, multiply-end
-use mathlib.Core.Path.{_≡_, refl, sym, _∙_, ap, subst}
+--   multiples-asked, products-asked, put-degree    what the calls require
+--   multiply-start, multiply-more, multiply-end
+use mathlib.Core.Path.{_≡_, sym, subst}
 use mathlib.Core.List.{List, [], _∷_, map}
 use Prim.Native.Nat.{ℕ, zero, suc, _+_, _<_, _≤_}
 use native.Mathlib.Omega.{arith}
@@ -15,11 +16,11 @@ use Rattle.prime.specs.Prime.{Prime}
 use Rattle.ideal.specs.Ideal.{SameIdeal, Product}
 use Rattle.ideal.specs.Poles.{Poles, HasPole}
 use Rattle.ideal.proofs.Degree.{monic-pole, pole-mul}
-use Rattle.ideal.proofs.Every.{Every, every-map, every-append, every-image}
+use Rattle.ideal.proofs.Every.{Every, every-append, every-image}
 use Rattle.ideal.proofs.Generated.{products, products-source}
 use Rattle.ideal.proofs.Same.{same-sym, same-trans}
-use Rattle.ideal.proofs.Span.{Span, span-each, span-first, span-product, span-rest, span-same}
-use Rattle.vector.specs.Vector.{Vec, at, row, element, width}
+use Rattle.ideal.proofs.Span.{Span, span-each, span-product, span-same}
+use Rattle.vector.specs.Vector.{at, row, element, width}
 use Rattle.multiplication.specs.Contract.{RowsOf, YMultiplesAsked, YMultiples, TimesAsked, Times}
 use Rattle.triple.specs.Setting.{Setting, ring, poles-of, Ready}
 use Rattle.triple.specs.Triple.{Triple, elements, Spanned, listed}
@@ -32,7 +33,7 @@ use Rattle.triple.proofs.Empty.{no-rows, no-degrees, empty-triple, empty-same}
 use Rattle.span.specs.Contract.{ProductAsked, Multiplied, PutAsked, Put}
 
 module _ {R : CommRing} (P : Poles R) where
-  pub every-products : (Q : R .Car → Type 0) (gs hs : List (R .Car)) → Every (λ g. Every (λ h. Q (R .mul g h)) hs) gs → Every Q (products R gs hs)
+  every-products : (Q : R .Car → Type 0) (gs hs : List (R .Car)) → Every (λ g. Every (λ h. Q (R .mul g h)) hs) gs → Every Q (products R gs hs)
   every-products Q [] hs _ = tt
   every-products Q (g ∷ gs) hs (m, ms) = every-append Q (map (λ h. R .mul g h) hs) (products R gs hs) (every-image Q (λ h. R .mul g h) hs m) (every-products Q gs hs ms)
 
@@ -74,13 +75,14 @@ module _ {p top : ℕ} {t₁ : List (List ℕ)} {d₁ : List ℕ} {ys t : List (
               SameIdeal (ring S) (Spanned S t″) (Span (poles-of S) (listed (λ i. ring S .mul (element p (S .curve) (row t₁ i)) g) (suc i) (elements S t)))
           same S g o =
               subst (λ u. SameIdeal (ring S) (Spanned S t″) (Span (poles-of S) (u ∷ listed (λ i. ring S .mul (element p (S .curve) (row t₁ i)) g) i (elements S t)))) (m .value (S .curve) g o)
-              (same-trans (ring S) (r .same S) (span-cons (poles-of S) (elements S t′) (listed (λ i. ring S .mul (element p (S .curve) (row t₁ i)) g) i (elements S t)) (element p (S .curve) v) (q .same S g o)))
+              (same-trans (ring S) (r .same S) (span-cons (poles-of S) (elements S t′) (listed (λ i. ring S .mul (element p (S .curve) (row t₁ i)) g) i (elements S t))
+              (element p (S .curve) v) (q .same S g o)))
 
 pub put-end : {p i : ℕ} {t₁ ys t t′ : List (List ℕ)} {d′ : List ℕ} → Putting p t₁ ys t t′ d′ i → 3 ≤ i → Put p t₁ ys t t′ d′
 put-end {p} {i} {t₁} {ys} {t} {t′} {d′} q l = record { triple = q .triple; same = subst (Putting p t₁ ys t t′ d′) {x = i} {y = 3} (omega (arith, q .bound)) q .same }
 
 -- the products of all members of the first triple with the first j of the second, the last one first
-abbrev pub outer : {p : ℕ} (S : Setting p) (t₁ t₂ : List (List ℕ)) → ℕ → List (ring S .Car)
+abbrev outer : {p : ℕ} (S : Setting p) (t₁ t₂ : List (List ℕ)) → ℕ → List (ring S .Car)
 outer {p} S t₁ t₂ zero = []
 outer {p} S t₁ t₂ (suc j) = listed (λ i. ring S .mul (element p (S .curve) (row t₁ i)) (element p (S .curve) (row t₂ j))) 3 (outer S t₁ t₂ j)
 
@@ -129,11 +131,11 @@ module _ {p : ℕ} (S : Setting p) (t₁ t₂ : List (List ℕ)) (Q : ring S .Ca
   abbrev pair : ℕ → ℕ → ring S .Car
   pair j i = ring S .mul (element p (S .curve) (row t₁ i)) (element p (S .curve) (row t₂ j))
 
-  pub outer-each : (n : ℕ) → ((j i : ℕ) → j < n → i < 3 → Q (pair j i)) → Every Q (outer S t₁ t₂ n)
+  outer-each : (n : ℕ) → ((j i : ℕ) → j < n → i < 3 → Q (pair j i)) → Every Q (outer S t₁ t₂ n)
   outer-each zero g = tt
   outer-each (suc n) g = listed-each Q (pair n) 3 (outer S t₁ t₂ n) (λ i l. g n i (omega arith) l) (outer-each n (λ j i k l. g j i (omega arith) l))
 
-  pub outer-at : (n : ℕ) → Every Q (outer S t₁ t₂ n) → (j i : ℕ) → j < n → i < 3 → Q (pair j i)
+  outer-at : (n : ℕ) → Every Q (outer S t₁ t₂ n) → (j i : ℕ) → j < n → i < 3 → Q (pair j i)
   outer-at zero q j i k l = absurd (omega arith)
   outer-at (suc n) q j i k l = go (outer-at n (listed-rest Q (pair n) 3 (outer S t₁ t₂ n) q) j i) (ℕ-discrete j n)
     where
@@ -142,7 +144,7 @@ module _ {p : ℕ} (S : Setting p) (t₁ t₂ : List (List ℕ)) (Q : ring S .Ca
       go r (no e) = r (omega arith) l
 
 module _ {p : ℕ} (S : Setting p) (t₁ t₂ : List (List ℕ)) (len₁ : length t₁ ≡ 3) (len₂ : length t₂ ≡ 3) where
-  pub outer-product : SameIdeal (ring S) (Span (poles-of S) (outer S t₁ t₂ 3)) (Product (ring S) (Spanned S t₁) (Spanned S t₂))
+  outer-product : SameIdeal (ring S) (Span (poles-of S) (outer S t₁ t₂ 3)) (Product (ring S) (Spanned S t₁) (Spanned S t₂))
   outer-product = same-trans (ring S) (span-same (poles-of S) (outer S t₁ t₂ 3) all there back) (same-sym (ring S) (span-product (poles-of S) (elements S t₁) (elements S t₂)))
     where
       all : List (ring S .Car)
@@ -154,12 +156,15 @@ module _ {p : ℕ} (S : Setting p) (t₁ t₂ : List (List ℕ)) (len₁ : lengt
       there : Every (Span (poles-of S) all) (outer S t₁ t₂ 3)
       there =
           outer-each S t₁ t₂ (Span (poles-of S) all) 3
-          (λ j i k l. row-each S (λ b. Span (poles-of S) all (ring S .mul (element p (S .curve) (row t₁ i)) b)) t₂ (row-each S (λ a. Every (λ b. Span (poles-of S) all (ring S .mul a b)) (elements S t₂)) t₁ each i (omega arith)) j (omega arith))
+          (λ j i k l. row-each S (λ b. Span (poles-of S) all (ring S .mul (element p (S .curve) (row t₁ i)) b)) t₂
+          (row-each S (λ a. Every (λ b. Span (poles-of S) all (ring S .mul a b)) (elements S t₂)) t₁ each i (omega arith)) j (omega arith))
 
       back : Every (Span (poles-of S) (outer S t₁ t₂ 3)) all
       back =
           every-products (poles-of S) (Span (poles-of S) (outer S t₁ t₂ 3)) (elements S t₁) (elements S t₂)
-          (each-row S (λ a. Every (λ b. Span (poles-of S) (outer S t₁ t₂ 3) (ring S .mul a b)) (elements S t₂)) t₁ (λ i l. each-row S (λ b. Span (poles-of S) (outer S t₁ t₂ 3) (ring S .mul (element p (S .curve) (row t₁ i)) b)) t₂ (λ j k. outer-at S t₁ t₂ (Span (poles-of S) (outer S t₁ t₂ 3)) 3 (span-each (poles-of S) (outer S t₁ t₂ 3)) j i (omega arith) (omega arith))))
+          (each-row S (λ a. Every (λ b. Span (poles-of S) (outer S t₁ t₂ 3) (ring S .mul a b)) (elements S t₂)) t₁
+          (λ i l. each-row S (λ b. Span (poles-of S) (outer S t₁ t₂ 3) (ring S .mul (element p (S .curve) (row t₁ i)) b)) t₂
+          (λ j k. outer-at S t₁ t₂ (Span (poles-of S) (outer S t₁ t₂ 3)) 3 (span-each (poles-of S) (outer S t₁ t₂ 3)) j i (omega arith) (omega arith))))
 
 module _ {p j : ℕ} {f : List ℕ} {t₁ : List (List ℕ)} {d₁ : List ℕ} {t₂ : List (List ℕ)} {d₂ : List ℕ} {t : List (List ℕ)} {d : List ℕ}
     (h : ProductAsked p f t₁ d₁ t₂ d₂) (q : Multiplying p f t₁ t₂ t d j) (end : 3 ≤ j) where

@@ -47,7 +47,8 @@ module _ {p n d : ℕ} {v b v′ : List ℕ} (h : ClearAsked p v n b d) (c : Cle
       ∙ ap (coefficient C m) (c .value C)
       ∙ coefficient-add C m _ _
       ∙ ap₂ (Z p .add) (element-coefficient p C (c .vec) m)
-      (ap (coefficient C m) (Coordinate C .mul-assoc _ _ _) ∙ coefficient-constant-mul C m (el p (at v n)) _ ∙ ap (Z p .mul (el p (at v n))) (shift-high C ((n - d) / 3) i (element p C b) ∙ element-coefficient p C (h .b-vec) i))
+      (ap (coefficient C m) (Coordinate C .mul-assoc _ _ _) ∙ coefficient-constant-mul C m (el p (at v n)) _ ∙ ap (Z p .mul (el p (at v n)))
+      (shift-high C ((n - d) / 3) i (element p C b) ∙ element-coefficient p C (h .b-vec) i))
     where
       m : ℕ
       m = 3 * ((n - d) / 3) + i

@@ -4,19 +4,18 @@
 --   lead-pole              a place with a nonzero number is a pole number
 --   element-below          a vector below n is an element below n
 --   element-zero           a vector of zeros is zero
---   element-pole, pole-element     the lead of the element is at m exactly if v is below m + 1 and v[m] is not 0
+--   element-pole                   the lead of the element is at m if v is below m + 1 and v[m] is not 0
 --   present-monic          a member that is present is monic
 use mathlib.Core.Path.{_≡_, sym, _∙_, ap, subst}
 use mathlib.Core.List.{List}
 use Prim.Native.Nat.{ℕ, zero, suc, _<_}
 use native.Mathlib.Omega.{arith}
-use Rattle.algebra.specs.Ring.{CommRing, Field}
+use Rattle.algebra.specs.Ring.{CommRing}
 use Rattle.algebra.proofs.Laws as L
 use Rattle.field.specs.Residue.{Z, el}
-use Rattle.field.proofs.Element.{el-zero, el-one, el-pos, el-inj}
+use Rattle.field.proofs.Element.{el-zero, el-one, el-pos}
 use Rattle.prime_field.specs.Field.{F}
-use Rattle.field.proofs.Invert.{lt-of-ne}
-use Rattle.ideal.specs.Poles.{IsPole, Poles, HasPole, Monic}
+use Rattle.ideal.specs.Poles.{IsPole, HasPole, Monic}
 use Rattle.ideal.proofs.Span.{InX, inx-constant, inx-x, inx-one}
 use Rattle.curve.specs.Curve.{Curve, x, y, constant}
 use Rattle.curve.specs.Sequence.{coefficient}
@@ -24,7 +23,7 @@ use Rattle.curve.specs.Monomial.{power, monomial, mono}
 use Rattle.curve.proofs.Filtration.{coefficient-below}
 use Rattle.poles.specs.Poles.{poles}
 use Rattle.curve.proofs.Poles.{below-constant}
-use Rattle.poles.proofs.Monic.{coefficient-has-pole, has-pole-coefficient, coefficient-monic}
+use Rattle.poles.proofs.Monic.{coefficient-has-pole, coefficient-monic}
 use Rattle.vector.specs.Vector.{Vec, Top, at, element, x-to}
 use Rattle.vector.proofs.Loop.{gap-zero}
 use Rattle.vector.proofs.Element.{element-coefficient}
@@ -68,15 +67,6 @@ module _ {p : ℕ} (S : Setting p) {v : List ℕ} (h : Vec p v) where
   element-pole {m} t l =
       coefficient-has-pole (F p (S .prime)) (S .curve) (S .nonzero)
       (λ e. el-pos p (at v m) l (h .below m) (sym (element-coefficient p (S .curve) h m) ∙ e)) (λ n u. coefficient-zero (S .curve) h n (t n u))
-
-  el-none : {n : ℕ} → n < p → el p n ≡ Z p .zero → n ≡ 0
-  el-none {n} b e = el-inj p n 0 b (omega arith) (e ∙ sym (el-zero p))
-
-  pub pole-element : {m : ℕ} → HasPole (poles-of S) (element p (S .curve) v) m → (0 < at v m) × Top v (suc m)
-  pole-element {m} q = go (has-pole-coefficient (F p (S .prime)) (S .curve) (S .nonzero) q)
-    where
-      go : (¬ (coefficient (S .curve) m (element p (S .curve) v) ≡ Z p .zero)) × ((n : ℕ) → m < n → coefficient (S .curve) n (element p (S .curve) v) ≡ Z p .zero) → (0 < at v m) × Top v (suc m)
-      go (a, b) = (lt-of-ne (at v m) (λ e. a (coefficient-zero (S .curve) h m e)), λ n l. el-none (h .below n) (sym (element-coefficient p (S .curve) h n) ∙ b n l))
 
   pub present-monic : {j d : ℕ} → Present v j d → Monic (poles-of S) (element p (S .curve) v) d
   present-monic {j} {d} q =

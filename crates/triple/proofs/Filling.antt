@@ -13,7 +13,6 @@ use lib.Dec.{eqb}
 use borrow.Author.Tests.{eqb-true, eqb-false}
 use Rattle.algebra.specs.Ring.{CommRing}
 use Rattle.ideal.specs.Ideal.{SameIdeal}
-use Rattle.ideal.specs.Poles.{Poles}
 use Rattle.ideal.proofs.Every.{Every, every-append, every-left, every-right}
 use Rattle.ideal.proofs.Same.{same-trans}
 use Rattle.ideal.proofs.Span.{Span, span-each, span-same, span-within}
@@ -68,7 +67,8 @@ module _ {p top : ℕ} {t : List (List ℕ)} {d : List ℕ} {ys : List (List ℕ
       back : 3 ≤ j → Every (Span (poles-of S) part) all
       back k =
           every-append (Span (poles-of S) part) (elements S ys) (elements S t)
-          (each-row S (Span (poles-of S) part) ys (λ i l. listed-at (Span (poles-of S) part) (λ i. element p (S .curve) (row ys i)) j (elements S t) (span-each (poles-of S) part) i (omega (arith, h .rows .len))))
+          (each-row S (Span (poles-of S) part) ys (λ i l. listed-at (Span (poles-of S) part) (λ i. element p (S .curve) (row ys i)) j (elements S t) (span-each (poles-of S) part) i
+          (omega (arith, h .rows .len))))
           (listed-rest (Span (poles-of S) part) (λ i. element p (S .curve) (row ys i)) j (elements S t) (span-each (poles-of S) part))
 
     pub fill-end : 3 ≤ j → AllInserted p t d ys t′ d′

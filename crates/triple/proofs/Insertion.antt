@@ -65,7 +65,8 @@ module _ {p n : ℕ} {t : List (List ℕ)} {d v : List ℕ} {t′ : List (List �
   spanned : n ≡ 0 → (S : Setting p) → SameIdeal (ring S) (Spanned S t′) (Span (poles-of S) (element p (S .curve) v ∷ elements S t))
   spanned e S =
       same-trans (ring S)
-      (span-same (poles-of S) (elements S t′) (element p (S .curve) v′ ∷ elements S t′) (every-map (span-rest (poles-of S) _ (elements S t′)) (elements S t′) each) (subst (Spanned S t′) (sym gone) (span-nil (poles-of S) (elements S t′)), each))
+      (span-same (poles-of S) (elements S t′) (element p (S .curve) v′ ∷ elements S t′) (every-map (span-rest (poles-of S) _ (elements S t′)) (elements S t′) each)
+      (subst (Spanned S t′) (sym gone) (span-nil (poles-of S) (elements S t′)), each))
       (h .same S)
     where
       each : Every (Spanned S t′) (elements S t′)
@@ -90,4 +91,5 @@ module _ {p n : ℕ} {t : List (List ℕ)} {d v : List ℕ} {t′ : List (List �
           go (inr q) = omega (arith, degree-most (h .triple) j l, q .none)
           go (inl q) =
               subst (λ i. at d′ i ≤ at d j) (q .class)
-              (spanned-lead S (h .triple) (spanned e S _ .1 (beside-row S (element p (S .curve) v) t j (omega (arith, h .old .len-t)))) (monic-pole (poles-of S) (present-monic S (h .old .member j l .vec) q)) .0)
+              (spanned-lead S (h .triple) (spanned e S _ .1 (beside-row S (element p (S .curve) v) t j (omega (arith, h .old .len-t))))
+              (monic-pole (poles-of S) (present-monic S (h .old .member j l .vec) q)) .0)

@@ -26,7 +26,7 @@ use Rattle.triple.specs.Contract.{Whole}
 use Rattle.triple.proofs.Element.{element-zero, present-monic}
 use Rattle.triple.proofs.Members.{spanned-row}
 
-pub three-rows : (t : List (List ℕ)) → length t ≡ 3 → t ≡ row t 0 ∷ row t 1 ∷ row t 2 ∷ []
+three-rows : (t : List (List ℕ)) → length t ≡ 3 → t ≡ row t 0 ∷ row t 1 ∷ row t 2 ∷ []
 three-rows [] e = absurd (omega arith)
 three-rows (a ∷ []) e = absurd (omega arith)
 three-rows (a ∷ b ∷ []) e = absurd (omega arith)
@@ -52,7 +52,7 @@ module _ {R : CommRing} (P : Poles R) where
   abbrev pub Leads : (ℕ → Type 0) → R .Car → Type 0
   Leads Q g = (g ≡ R .zero) ⊎ ((n : ℕ) × HasPole P g n × Q n)
 
-  pub leads-add : {Q Q′ Q″ : ℕ → Type 0} {a b : R .Car} → ((m n : ℕ) → Q m → Q′ n → ¬ (m ≡ n)) → ((n : ℕ) → Q n → Q″ n) → ((n : ℕ) → Q′ n → Q″ n) → Leads Q a → Leads Q′ b → Leads Q″ (R .add a b)
+  leads-add : {Q Q′ Q″ : ℕ → Type 0} {a b : R .Car} → ((m n : ℕ) → Q m → Q′ n → ¬ (m ≡ n)) → ((n : ℕ) → Q n → Q″ n) → ((n : ℕ) → Q′ n → Q″ n) → Leads Q a → Leads Q′ b → Leads Q″ (R .add a b)
   leads-add {Q} {Q′} {Q″} {a} {b} apart f g = go
     where
       both : (m n : ℕ) → HasPole P a m → Q m → HasPole P b n → Q′ n → Dec (m < n) → Leads Q″ (R .add a b)

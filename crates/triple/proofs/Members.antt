@@ -3,7 +3,7 @@
 --   spanned-row            the span of t holds each member
 --   each-row               what holds of each member holds of each element
 --   span-shift             u − s for u, with s in the span of the others
---   span-scaled            u is in a span if c·u is, for an invertible c
+--   row-each, beside-row   the rows of a triple, and one vector beside them
 --   swap-same              a member of t is exchanged for a multiple of v by a constant, and v for the member
 --   setting-of             a setting, for every prime
 use mathlib.Core.Path.{_≡_, sym, _∙_, ap, subst}
@@ -14,7 +14,7 @@ use native.Mathlib.Nat.{le-of-suc-le-suc}
 use native.Mathlib.Decide.{ℕ-discrete}
 use lib.ListN.{length, getD, set, length-set}
 use lib.Seq.{getD-set-same, getD-set-other}
-use Rattle.algebra.specs.Ring.{CommRing, Field}
+use Rattle.algebra.specs.Ring.{CommRing}
 use Rattle.algebra.proofs.Laws.{ring}
 use Rattle.prime.specs.Prime.{Prime}
 use Rattle.field.specs.Residue.{Z}
@@ -24,7 +24,6 @@ use Rattle.ideal.specs.Poles.{Poles}
 use Rattle.ideal.proofs.Every.{Every, every-map, every-source, every-image}
 use Rattle.ideal.proofs.Leads.{space-neg}
 use Rattle.ideal.proofs.Span.{InX, inx-one, Span, span-each, span-first, span-rest, span-same, span-space, span-times}
-use Rattle.curve.specs.Curve.{Curve}
 use Rattle.vector.specs.Vector.{row, element}
 use Rattle.triple.specs.Setting as setting
 use Rattle.triple.specs.Setting.{Setting, poles-of}
@@ -62,7 +61,7 @@ module _ {R : CommRing} (P : Poles R) where
       more = (one, s, inx-one P, m, e ∙ plus-form u′ s)
 
   -- c·u is in a span with u
-  pub span-multiple : (bs : List Car) {c u w : Car} → InX P c → w ≡ c ⊗ u → Span P bs u → Span P bs w
+  span-multiple : (bs : List Car) {c u w : Car} → InX P c → w ≡ c ⊗ u → Span P bs u → Span P bs w
   span-multiple bs {c} {u} i e m = subst (Span P bs) (sym e) (span-times P bs i u m)
 
 -- y³ = −x⁴

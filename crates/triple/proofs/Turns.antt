@@ -1,6 +1,6 @@
 -- One turn of insert: what it asks of vector's functions, and what each of its four ends gives.
 --   top-less               a vector below m + 1 with 0 at m is below m
---   member-set             the new member of a triple
+--   monic-asked, clear-asked, swap-asked    what the calls of a turn require
 --   turn-none              v[m] is 0: nothing is done
 --   turn-clear             v less a multiple of the member of its class
 --   turn-swap, turn-fill   v takes the member's place; the old member less its multiple goes on, or there was none
@@ -44,7 +44,7 @@ turn-none {v = v} h e =
     }
 
 -- v less a multiple of a member
-pub cleared-same :
+cleared-same :
     {p n d : ℕ} (t : List (List ℕ)) (j : ℕ) {v v′ : List ℕ} → j < length t → Cleared p v n (row t j) d v′ → (S : Setting p) →
     SameIdeal (ring S) (Span (poles-of S) (element p (S .curve) v′ ∷ elements S t)) (Span (poles-of S) (element p (S .curve) v ∷ elements S t))
 cleared-same {p} {n} {d} t j {v} {v′} h c S =
@@ -88,7 +88,7 @@ module _ {p m : ℕ} {t : List (List ℕ)} {d v : List ℕ} (h : TurnAsked p t d
     new-member : Member p u j m
     new-member = record { vec = q .vec; shape = inl (record { inside = h .inside; class = refl; monic = q .monic; top = q .top }) }
 
-    pub set-triple : Triple p (set t j u) (set d j m)
+    set-triple : Triple p (set t j u) (set d j m)
     set-triple = record { len-t = length-set t j u ∙ h .triple .len-t; len-d = length-set d j m ∙ h .triple .len-d; member = λ i l. go i l (ℕ-discrete i j) }
       where
         go : (i : ℕ) → i < 3 → Dec (i ≡ j) → Member p (row (set t j u) i) i (at (set d j m) i)

@@ -4,20 +4,16 @@
 --   AllAsked, AllInserted        insert_all: the span afterwards is the span of the triple and the three vectors
 --   Whole                        whole: the degrees are (0, 4, 8)
 use mathlib.Core.Path.{_≡_}
-use mathlib.Core.Bool.{Bool, true, false}
 use mathlib.Core.List.{List, _∷_, _++_}
-use Prim.Native.Nat.{ℕ, zero, suc, _+_, _%_, _<_, _≤_}
+use Prim.Native.Nat.{ℕ, suc, _+_, _%_, _<_, _≤_}
 use Rattle.algebra.specs.Ring.{CommRing}
 use Rattle.prime.specs.Prime.{Prime}
-use Rattle.ideal.specs.Ideal.{SameIdeal, Product}
+use Rattle.ideal.specs.Ideal.{SameIdeal}
 use Rattle.ideal.proofs.Span.{Span}
-use Rattle.curve.specs.Curve.{y}
-use Rattle.curve.specs.Sequence.{coefficient}
-use Rattle.field.specs.Residue.{Z}
-use Rattle.vector.specs.Vector.{Vec, Top, at, row, width, element}
-use Rattle.multiplication.specs.Contract.{Rows, RowsOf}
-use Rattle.triple.specs.Setting.{Setting, ring, poles-of, Ready}
-use Rattle.triple.specs.Triple.{Triple, Full, elements, Spanned}
+use Rattle.vector.specs.Vector.{Vec, Top, at, width, element}
+use Rattle.multiplication.specs.Contract.{Rows}
+use Rattle.triple.specs.Setting.{Setting, ring, poles-of}
+use Rattle.triple.specs.Triple.{Triple, elements, Spanned}
 
 pub record InsertAsked (p : ℕ) (t : List (List ℕ)) (d v : List ℕ) (top : ℕ) : Type 0 where
   pub prime : Prime p

@@ -1,7 +1,6 @@
 -- The elements of vectors.
 --   element-coefficient            the coefficients of v's element are v's residues
 --   element-at                     the same by the powers of x and y
---   element-same                   vectors with the same residues have the same element
 --   element-zero                   the zero vector's element is zero
 --   element-scale                  residues that are c times those of v
 --   added-value                    what axpy does to the element
@@ -13,7 +12,6 @@ use native.Mathlib.Decide.{decLt}
 use lib.ListN.{length}
 use Rattle.algebra.specs.Ring.{CommRing}
 use Rattle.algebra.proofs.Laws as L
-use Rattle.ideal.specs.Poles.{IsPole}
 use Rattle.field.specs.Residue.{Z, el}
 use Rattle.field.proofs.Element.{el-zero}
 use Rattle.curve.specs.Curve.{Curve, Coordinate, constant}
@@ -22,7 +20,7 @@ use Rattle.curve.specs.Pole.{pole}
 use Rattle.curve.proofs.Pole.{Located, place, gap, locate, pole-is-pole}
 use Rattle.curve.specs.Sequence.{coefficient}
 use Rattle.curve.proofs.Term.{coefficient-pole, coefficient-gap, coefficient-ext, coefficient-add, coefficient-constant-mul, coefficient-vector}
-use Rattle.curve.proofs.Vector.{vector-same, vector-zero, vector-scale}
+use Rattle.curve.proofs.Vector.{vector-zero, vector-scale}
 use Rattle.vector.specs.Vector.{Vec, Top, at, res, element, past-end, x-to, scalar}
 use Rattle.vector.specs.Contract.{Added}
 use Rattle.vector.proofs.Loop.{gap-zero}
@@ -47,10 +45,6 @@ module _ (p : ℕ) (C : Curve (Z p)) where
       go : Located n → coefficient C n (element p C v) ≡ res p v n
       go (place i j l e) = rw e (coefficient-pole C i j l (element p C v) ∙ element-at v i j l)
       go (gap q) = coefficient-gap C n q _ ∙ sym (ap (el p) (gap-zero h n q) ∙ el-zero p)
-
-  pub element-same : (v w : List ℕ) → ((n : ℕ) → IsPole n → res p v n ≡ res p w n) → element p C v ≡ element p C w
-  unfolding element
-  element-same v w e = vector-same C (res p v) (length v) (past-end p v) (res p w) (length w) (past-end p w) e
 
   pub element-zero : (v : List ℕ) → Top v 0 → element p C v ≡ 𝟎
   unfolding element

@@ -28,7 +28,8 @@ returns c =
 returns-2 : tie.Need-returns-2
 returns-2 c =
     let read = c .before .before .before .before .read-curve in
-    refused _ (curve-cause (now (c .before .before .before .before .before .before .args .curve)) (read .result) (read .ensures) _ (c .before .before .read .given .1)) (kept (c .refusal .result) (c .refusal .ok) ∙ c .refusal .ensures)
+    refused _ (curve-cause (now (c .before .before .before .before .before .before .args .curve)) (read .result) (read .ensures) _ (c .before .before .read .given .1))
+    (kept (c .refusal .result) (c .refusal .ok) ∙ c .refusal .ensures)
 
 pub check-curve-spec : {M : Type 1} → statement M
 check-curve-spec =

@@ -28,7 +28,8 @@ of-requires c κs =
 read-two-requires : tie.Need-read-two-requires
 read-two-requires c κs =
     let read = c .before .before .before .before .read-curve in
-    grounded-on (curve-on (now (c .before .before .before .before .before .before .before .before .args .curve)) (read .result) (read .ensures) _ (c .before .before .read .given .1) _ (c .of .ensures))
+    grounded-on
+    (curve-on (now (c .before .before .before .before .before .before .before .before .args .curve)) (read .result) (read .ensures) _ (c .before .before .read .given .1) _ (c .of .ensures))
 
 enum-told : tie.Need-enum-told
 enum-told c = search needs
@@ -85,7 +86,8 @@ returns-3 c =
     let o = curve-on k (read .result) (read .ensures) _ is _ (c .before .before .before .before .before .of .ensures) in
     let next = c .before .before .before .before .read-two in
     returns-after (curve-stages k) _ (curve-passes k (read .result) (read .ensures) _ is)
-    (refused _ (pair-refused o (now (start .args .a)) (now (start .args .b)) (next .result) (next .ensures) _ (c .before .before .next .given .1)) (kept (c .refusal .result) (c .refusal .ok) ∙ c .refusal .ensures))
+    (refused _ (pair-refused o (now (start .args .a)) (now (start .args .b)) (next .result) (next .ensures) _ (c .before .before .next .given .1))
+    (kept (c .refusal .result) (c .refusal .ok) ∙ c .refusal .ensures))
 
 returns-4 : tie.Need-returns-4
 returns-4 c =
@@ -96,4 +98,18 @@ returns-4 c =
 pub compare-spec : {M : Type 1} → statement M
 compare-spec =
     tie.close
-    (tie.spec read-curve-requires enum-known-read of-requires read-two-requires enum-told same-bytes-requires enum-known-next refusal-requires enum-known-read-2 refusal-requires-2 returns returns-2 returns-3 returns-4)
+    (tie.spec
+    read-curve-requires
+    enum-known-read
+    of-requires
+    read-two-requires
+    enum-told
+    same-bytes-requires
+    enum-known-next
+    refusal-requires
+    enum-known-read-2
+    refusal-requires-2
+    returns
+    returns-2
+    returns-3
+    returns-4)

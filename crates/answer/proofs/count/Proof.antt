@@ -3,7 +3,6 @@ use borrow.Author.Needs.{needs}
 use mathlib.Core.Path.{_∙_, ap}
 use native.Mathlib.Omega.{arith}
 use lib.IntN.{pos}
-use mir.Val.{SFits}
 use denote.Ref.{now}
 use Rattle.record.specs.Curve.{curve-stages}
 use Rattle.calls.specs.Answer.{refused, answered}
@@ -72,7 +71,8 @@ returns-2 c =
     let o = curve-on k (read .result) (read .ensures) _ is _ (c .before .before .before .before .before .of .ensures) in
     let found = c .before .before .before .before .count-on in
     returns-after (curve-stages k) _ (curve-passes k (read .result) (read .ensures) _ is)
-    (refused _ (tally-refused k (list-of k s) s (start .args .kind) (found .result) (found .ensures k o) _ (c .before .before .found2 .given .1)) (kept (c .refusal .result) (c .refusal .ok) ∙ c .refusal .ensures))
+    (refused _ (tally-refused k (list-of k s) s (start .args .kind) (found .result) (found .ensures k o) _ (c .before .before .found2 .given .1))
+    (kept (c .refusal .result) (c .refusal .ok) ∙ c .refusal .ensures))
 
 returns-3 : tie.Need-returns-3
 returns-3 c =
@@ -83,4 +83,17 @@ returns-3 c =
 pub count-spec : {M : Type 1} → statement M
 count-spec =
     tie.close
-    (tie.spec read-curve-requires enum-known-read of-requires count-on-requires enum-known-found cast-result enum-known-found-2 refusal-requires enum-known-read-2 refusal-requires-2 returns returns-2 returns-3)
+    (tie.spec
+    read-curve-requires
+    enum-known-read
+    of-requires
+    count-on-requires
+    enum-known-found
+    cast-result
+    enum-known-found-2
+    refusal-requires
+    enum-known-read-2
+    refusal-requires-2
+    returns
+    returns-2
+    returns-3)

@@ -53,7 +53,8 @@ returns c =
     let is = c .before .before .before .before .before .before .before .read .given .1 in
     let o = curve-on k (read .result) (read .ensures) _ is _ (c .before .before .before .before .before .of .ensures) in
     let found = c .before .before .before .before .list-sum-on in
-    writes-found k (list-of k (now (start .args .list))) (SumOfList k (now (start .args .list))) _ (found .result) (curve-passes k (read .result) (read .ensures) _ is) (found .ensures k o) (c .before .before .written .ensures) (kept (c .before .before .written .result) (c .before .before .written .ok))
+    writes-found k (list-of k (now (start .args .list))) (SumOfList k (now (start .args .list))) _ (found .result) (curve-passes k (read .result) (read .ensures) _ is) (found .ensures k o)
+    (c .before .before .written .ensures) (kept (c .before .before .written .result) (c .before .before .written .ok))
 
 returns-2 : tie.Need-returns-2
 returns-2 c =

@@ -59,7 +59,9 @@ returns c =
     let o = curve-on k (read .result) (read .ensures) _ is _ (c .before .before .before .before .before .of .ensures) in
     let a = now (start .args .a) in
     let found = c .before .before .before .before .multiple-on in
-    writes-found k (divisor-of k a) (IsMultiple k a (start .args .n)) _ (found .result) (curve-passes k (read .result) (read .ensures) _ is) (subst (λ (n : ℤ). Found k (divisor-of k a) (IsMultiple k a n) (found .result)) (toZ-ofZ (start .fits .n)) (found .ensures k o)) (c .before .before .written .ensures) (kept (c .before .before .written .result) (c .before .before .written .ok))
+    writes-found k (divisor-of k a) (IsMultiple k a (start .args .n)) _ (found .result) (curve-passes k (read .result) (read .ensures) _ is)
+    (subst (λ (n : ℤ). Found k (divisor-of k a) (IsMultiple k a n) (found .result)) (toZ-ofZ (start .fits .n)) (found .ensures k o)) (c .before .before .written .ensures)
+    (kept (c .before .before .written .result) (c .before .before .written .ok))
 
 returns-2 : tie.Need-returns-2
 returns-2 c =

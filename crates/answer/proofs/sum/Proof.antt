@@ -35,7 +35,8 @@ written-requires c κs =
     let k = now (start .args .curve) in
     let read = c .before .before .before .before .before .before .read-curve in
     let o = curve-on k (read .result) (read .ensures) _ (c .before .before .before .before .read .given .1) _ (c .before .before .of .ensures) in
-    writable k (divisor-of k (now (start .args .a)) ++ divisor-of k (now (start .args .b))) (IsSum k (now (start .args .a)) (now (start .args .b))) (c .before .sum-on .result) (c .before .sum-on .ensures k o)
+    writable k (divisor-of k (now (start .args .a)) ++ divisor-of k (now (start .args .b))) (IsSum k (now (start .args .a)) (now (start .args .b))) (c .before .sum-on .result)
+    (c .before .sum-on .ensures k o)
 
 enum-known-read-2 : tie.Need-enum-known-read-2
 enum-known-read-2 c = search needs
@@ -54,7 +55,9 @@ returns c =
     let is = c .before .before .before .before .before .before .before .read .given .1 in
     let o = curve-on k (read .result) (read .ensures) _ is _ (c .before .before .before .before .before .of .ensures) in
     let found = c .before .before .before .before .sum-on in
-    writes-found k (divisor-of k (now (start .args .a)) ++ divisor-of k (now (start .args .b))) (IsSum k (now (start .args .a)) (now (start .args .b))) _ (found .result) (curve-passes k (read .result) (read .ensures) _ is) (found .ensures k o) (c .before .before .written .ensures) (kept (c .before .before .written .result) (c .before .before .written .ok))
+    writes-found k (divisor-of k (now (start .args .a)) ++ divisor-of k (now (start .args .b))) (IsSum k (now (start .args .a)) (now (start .args .b))) _ (found .result)
+    (curve-passes k (read .result) (read .ensures) _ is) (found .ensures k o) (c .before .before .written .ensures)
+    (kept (c .before .before .written .result) (c .before .before .written .ok))
 
 returns-2 : tie.Need-returns-2
 returns-2 c =

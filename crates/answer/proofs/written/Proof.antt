@@ -2,9 +2,7 @@
 use borrow.Author.Needs.{needs}
 use mathlib.Core.Path.{refl, _∙_}
 use native.Mathlib.Omega.{arith}
-use Rattle.reader.specs.declared.DivisorAnswer.{DivisorAnswer}
 use Rattle.reader.specs.declared.DivisorAnswer.the-variants as answer
-use Rattle.answer.specs.Written.{Writable}
 use Rattle.answer.proofs.Write.{write-asked, write-fits, wrote, wrote-answer, known}
 use Rattle.answer.proofs.Number.{kept}
 use Rattle.answer.proofs.written.Statement.{statement}
@@ -22,10 +20,16 @@ returns c =
     (λ l. (kept (c .refusal .result) (c .refusal .ok) ∙ c .refusal .ensures, refl), λ l. absurd (omega (arith, c .before .if1 .taken)))
 
 write-divisor-requires : tie.Need-write-divisor-requires
-write-divisor-requires c κs = write-asked (known (c .before .before .before .before .before .before .args .found) (c .before .before .before .before .before .before .pre) (c .before .before .before .found .given .1)) (c .before .if1 .left)
+write-divisor-requires c κs =
+    write-asked (known (c .before .before .before .before .before .before .args .found) (c .before .before .before .before .before .before .pre) (c .before .before .before .found .given .1))
+    (c .before .if1 .left)
 
 cast-result : tie.Need-cast-result
-cast-result c = write-fits (known (c .before .before .before .before .before .before .before .before .before .args .found) (c .before .before .before .before .before .before .before .before .before .pre) (c .before .before .before .before .before .before .found .given .1)) (c .before .before .write-divisor .ensures)
+cast-result c =
+    write-fits
+    (known (c .before .before .before .before .before .before .before .before .before .args .found) (c .before .before .before .before .before .before .before .before .before .pre)
+    (c .before .before .before .before .before .before .found .given .1))
+    (c .before .before .write-divisor .ensures)
 
 enum-known-found-2 : tie.Need-enum-known-found-2
 enum-known-found-2 c = search needs
@@ -42,7 +46,9 @@ returns-2 c =
     (λ l. absurd (omega (arith, c .before .before .before .before .if1 .left)), λ l. wrote (c .before .before .write-divisor .ensures))
 
 returns-3 : tie.Need-returns-3
-returns-3 c = wrote-answer _ _ _ (c .before .before .before .before .before .args .found) (answer.Refused _) (c .before .before .found2 .given .1) (kept (c .refusal2 .result) (c .refusal2 .ok) ∙ c .refusal2 .ensures, refl)
+returns-3 c =
+    wrote-answer _ _ _ (c .before .before .before .before .before .args .found) (answer.Refused _) (c .before .before .found2 .given .1)
+    (kept (c .refusal2 .result) (c .refusal2 .ok) ∙ c .refusal2 .ensures, refl)
 
 pub written-spec : {M : Type 1} → statement M
 written-spec =

@@ -46,7 +46,8 @@ loop-less c = search needs
 loop-again : tie.Need-loop-again Inv-loop μ-loop
 loop-again c = (
   ⊎-elim
-      (λ w. shifted-as (w .2) (shifted-more (c .before .before .before .pre) (c .before .before .loop .inv .0) (c .before .loop-test .taken) (entry-moved _ (omega arith) (omega (arith, w .0 .taken)))))
+      (λ w. shifted-as (w .2) (shifted-more (c .before .before .before .pre) (c .before .before .loop .inv .0) (c .before .loop-test .taken)
+      (entry-moved _ (omega arith) (omega (arith, w .0 .taken)))))
       (λ w. shifted-as (w .1) (shifted-skip (c .before .before .loop .inv .0) (entry-dropped _ (omega arith) (w .0 .left)))) (c .if1 .came),
   omega arith,
 )

@@ -1,6 +1,6 @@
 -- `pool::close_up` meets its contract. The loop's invariant: m slots are passed, and what is left of their records stands in the first w slots.
 use Prim.Native.Nat.{ℕ, _≤_, _-_}
-use mathlib.Core.Path.{_≡_, refl, sym, _∙_, subst}
+use mathlib.Core.Path.{_≡_, refl, _∙_}
 use mathlib.Core.List.{List}
 use native.Mathlib.Omega.{arith}
 use lib.ListN.{length}

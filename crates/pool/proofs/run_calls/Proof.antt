@@ -18,7 +18,8 @@ abbrev μ-loop : tie.MeasureT-loop
 
 loop-holds : tie.Need-loop-holds Inv-loop μ-loop
 loop-holds c =
-    let a = c .before .before .before .before .args in (refl, refl, going-none (a .curve .now) (a .pool .now) (a .count) (a .calls .now) (length (a .scratch .now)) (c .before .before .before .before .pre))
+    let a = c .before .before .before .before .args in
+    (refl, refl, going-none (a .curve .now) (a .pool .now) (a .count) (a .calls .now) (length (a .scratch .now)) (c .before .before .before .before .pre))
 
 mul-i : tie.Need-mul-i Inv-loop μ-loop
 mul-i c = search needs
@@ -37,7 +38,8 @@ mul-j c =
     let a = c .before .before .before .before .before .before .before .args in
     let v = c .before .before .loop in
     let q = c .before .before .before .before .before .before .before .pre in
-    let three : v .at + 3 ≤ length (a .calls .now) = going-three (a .curve .now) (a .pool .now) (a .count) (a .calls .now) (length (a .scratch .now)) q (v .pool) (v .left) (v .at) (v .inv .2) (omega arith) in
+    let three : v .at + 3 ≤ length (a .calls .now) = going-three (a .curve .now) (a .pool .now) (a .count) (a .calls .now) (length (a .scratch .now)) q (v .pool) (v .left) (v .at)
+    (v .inv .2) (omega arith) in
     let below : v .at + 1 < length (a .calls .now) = omega arith in search needs
 
 shared-slice-read-j : tie.Need-shared-slice-read-j Inv-loop μ-loop
@@ -45,7 +47,8 @@ shared-slice-read-j c =
     let a = c .before .before .before .before .before .before .before .before .args in
     let v = c .before .before .before .loop in
     let q = c .before .before .before .before .before .before .before .before .pre in
-    let three : v .at + 3 ≤ length (a .calls .now) = going-three (a .curve .now) (a .pool .now) (a .count) (a .calls .now) (length (a .scratch .now)) q (v .pool) (v .left) (v .at) (v .inv .2) (omega arith) in
+    let three : v .at + 3 ≤ length (a .calls .now) = going-three (a .curve .now) (a .pool .now) (a .count) (a .calls .now) (length (a .scratch .now)) q (v .pool) (v .left) (v .at)
+    (v .inv .2) (omega arith) in
     omega arith
 
 cast-j : tie.Need-cast-j Inv-loop μ-loop
@@ -56,7 +59,8 @@ add-l c =
     let a = c .before .before .before .before .before .before .before .before .args in
     let v = c .before .before .before .loop in
     let q = c .before .before .before .before .before .before .before .before .pre in
-    let three : v .at + 3 ≤ length (a .calls .now) = going-three (a .curve .now) (a .pool .now) (a .count) (a .calls .now) (length (a .scratch .now)) q (v .pool) (v .left) (v .at) (v .inv .2) (omega arith) in
+    let three : v .at + 3 ≤ length (a .calls .now) = going-three (a .curve .now) (a .pool .now) (a .count) (a .calls .now) (length (a .scratch .now)) q (v .pool) (v .left) (v .at)
+    (v .inv .2) (omega arith) in
     omega arith
 
 mul-l : tie.Need-mul-l Inv-loop μ-loop
@@ -64,7 +68,8 @@ mul-l c =
     let a = c .before .before .before .before .before .before .before .before .args in
     let v = c .before .before .before .loop in
     let q = c .before .before .before .before .before .before .before .before .pre in
-    let three : v .at + 3 ≤ length (a .calls .now) = going-three (a .curve .now) (a .pool .now) (a .count) (a .calls .now) (length (a .scratch .now)) q (v .pool) (v .left) (v .at) (v .inv .2) (omega arith) in
+    let three : v .at + 3 ≤ length (a .calls .now) = going-three (a .curve .now) (a .pool .now) (a .count) (a .calls .now) (length (a .scratch .now)) q (v .pool) (v .left) (v .at)
+    (v .inv .2) (omega arith) in
     let below : v .at + 2 < length (a .calls .now) = omega arith in search needs
 
 shared-slice-read-l : tie.Need-shared-slice-read-l Inv-loop μ-loop
@@ -72,7 +77,8 @@ shared-slice-read-l c =
     let a = c .before .before .before .before .before .before .before .before .before .args in
     let v = c .before .before .before .before .loop in
     let q = c .before .before .before .before .before .before .before .before .before .pre in
-    let three : v .at + 3 ≤ length (a .calls .now) = going-three (a .curve .now) (a .pool .now) (a .count) (a .calls .now) (length (a .scratch .now)) q (v .pool) (v .left) (v .at) (v .inv .2) (omega arith) in
+    let three : v .at + 3 ≤ length (a .calls .now) = going-three (a .curve .now) (a .pool .now) (a .count) (a .calls .now) (length (a .scratch .now)) q (v .pool) (v .left) (v .at)
+    (v .inv .2) (omega arith) in
     omega arith
 
 cast-l : tie.Need-cast-l Inv-loop μ-loop
@@ -83,14 +89,16 @@ slice-relend-prefix-step c =
     let a = c .before .before .before .before .before .before .before .before .before .before .args in
     let v = c .before .before .before .before .before .loop in
     let q = c .before .before .before .before .before .before .before .before .before .before .pre in
-    let small : getD (a .calls .now) (v .at + 2) 0 ≤ length (a .scratch .now) = going-small (a .curve .now) (a .pool .now) (a .count) (a .calls .now) (length (a .scratch .now)) q (v .pool) (v .left) (v .at) (v .inv .2) (omega arith) in omega arith
+    let small : getD (a .calls .now) (v .at + 2) 0 ≤ length (a .scratch .now) = going-small (a .curve .now) (a .pool .now) (a .count) (a .calls .now) (length (a .scratch .now)) q (v .pool)
+    (v .left) (v .at) (v .inv .2) (omega arith) in omega arith
 
 slice-aggregate-step : tie.Need-slice-aggregate-step Inv-loop μ-loop
 slice-aggregate-step c =
     let a = c .before .before .before .before .before .before .before .before .before .before .before .args in
     let v = c .before .before .before .before .before .before .loop in
     let q = c .before .before .before .before .before .before .before .before .before .before .before .pre in
-    let small : getD (a .calls .now) (v .at + 2) 0 ≤ length (a .scratch .now) = going-small (a .curve .now) (a .pool .now) (a .count) (a .calls .now) (length (a .scratch .now)) q (v .pool) (v .left) (v .at) (v .inv .2) (omega arith) in
+    let small : getD (a .calls .now) (v .at + 2) 0 ≤ length (a .scratch .now) = going-small (a .curve .now) (a .pool .now) (a .count) (a .calls .now) (length (a .scratch .now)) q (v .pool)
+    (v .left) (v .at) (v .inv .2) (omega arith) in
     sym (length-take-le (getD (a .calls .now) (v .at + 2) 0) (v .scratch) (omega arith))
 
 step-requires : tie.Need-step-requires Inv-loop μ-loop
@@ -105,7 +113,8 @@ add-at c =
     let a = c .before .before .before .before .before .before .before .before .before .before .before .before .before .before .before .before .args in
     let v = c .before .before .before .before .before .before .before .before .before .before .before .loop in
     let q = c .before .before .before .before .before .before .before .before .before .before .before .before .before .before .before .before .pre in
-    let three : v .at + 3 ≤ length (a .calls .now) = going-three (a .curve .now) (a .pool .now) (a .count) (a .calls .now) (length (a .scratch .now)) q (v .pool) (v .left) (v .at) (v .inv .2) (omega arith) in
+    let three : v .at + 3 ≤ length (a .calls .now) = going-three (a .curve .now) (a .pool .now) (a .count) (a .calls .now) (length (a .scratch .now)) q (v .pool) (v .left) (v .at)
+    (v .inv .2) (omega arith) in
     omega arith
 
 loop-less : tie.Need-loop-less Inv-loop μ-loop
@@ -113,7 +122,8 @@ loop-less c =
     let a = c .before .before .before .before .before .before .before .before .before .before .before .before .before .before .before .before .args in
     let v = c .before .before .before .before .before .before .before .before .before .before .before .loop in
     let q = c .before .before .before .before .before .before .before .before .before .before .before .before .before .before .before .before .pre in
-    let three : v .at + 3 ≤ length (a .calls .now) = going-three (a .curve .now) (a .pool .now) (a .count) (a .calls .now) (length (a .scratch .now)) q (v .pool) (v .left) (v .at) (v .inv .2) (omega arith) in
+    let three : v .at + 3 ≤ length (a .calls .now) = going-three (a .curve .now) (a .pool .now) (a .count) (a .calls .now) (length (a .scratch .now)) q (v .pool) (v .left) (v .at)
+    (v .inv .2) (omega arith) in
     omega arith
 
 loop-again : tie.Need-loop-again Inv-loop μ-loop
@@ -123,10 +133,12 @@ loop-again c =
     let q = c .before .before .before .before .before .before .before .before .before .before .before .before .before .before .before .before .pre in
     let k = c .before .before .before .before .step in
     let b = getD (a .calls .now) (v .at + 2) 0 in
-    let small : b ≤ length (a .scratch .now) = going-small (a .curve .now) (a .pool .now) (a .count) (a .calls .now) (length (a .scratch .now)) q (v .pool) (v .left) (v .at) (v .inv .2) (omega arith) in (
+    let small : b ≤ length (a .scratch .now) = going-small (a .curve .now) (a .pool .now) (a .count) (a .calls .now) (length (a .scratch .now)) q (v .pool) (v .left) (v .at) (v .inv .2)
+    (omega arith) in (
       k .kept .1 .0 ∙ v .inv .0,
       length-front (v .scratch) (k .last .1 .1 .1 .1 .1 .0) b (k .kept .1 .1 .1 .1 .1 .0) ∙ v .inv .1,
-      going-more (a .curve .now) (a .pool .now) (a .count) (a .calls .now) (length (a .scratch .now)) q (v .pool) (v .left) (v .at) (v .inv .2) (omega arith) (take b (v .scratch)) (k .last .1 .0) (k .result) (length-take-le b (v .scratch) (omega arith)) (k .ensures),
+      going-more (a .curve .now) (a .pool .now) (a .count) (a .calls .now) (length (a .scratch .now)) q (v .pool) (v .left) (v .at) (v .inv .2) (omega arith) (take b (v .scratch))
+          (k .last .1 .0) (k .result) (length-take-le b (v .scratch) (omega arith)) (k .ensures),
     )
 
 same-length : tie.Need-same-length Inv-loop μ-loop

@@ -53,7 +53,8 @@ copy-in-requires c κs =
     let k = c .before .before .before .before .before .before .before .before .before .sum-slots in
     let out = k .last .1 .1 .1 .1 .0 in
     let read = toZ-ofZ {w = w32} {z = k .result} (record { sfits = k .ok }) in
-    copy-fits (a .curve .now) (a .s .now) (a .n) (a .i) (a .j) q (a .out .now) (k .result) out (k .ensures) _ read (omega arith) (c .before .before .before .before .close-up .last .0) (omega arith) (omega arith)
+    copy-fits (a .curve .now) (a .s .now) (a .n) (a .i) (a .j) q (a .out .now) (k .result) out (k .ensures) _ read (omega arith) (c .before .before .before .before .close-up .last .0)
+    (omega arith) (omega arith)
 
 sub-result : tie.Need-sub-result
 sub-result c = search needs
@@ -71,7 +72,8 @@ returns-2 c =
     let k = c .before .before .before .before .before .before .before .before .before .before .before .before .sum-slots in
     let out = k .last .1 .1 .1 .1 .0 in
     let read = toZ-ofZ {w = w32} {z = k .result} (record { sfits = k .ok }) in
-    step-long (a .curve .now) (a .s .now) (a .n) (a .i) (a .j) q (a .out .now) (k .result) out (k .ensures) _ read (omega arith) (c .before .before .before .before .before .before .before .close-up .last .0) (c .before .before .copy-in .last .0) (omega arith)
+    step-long (a .curve .now) (a .s .now) (a .n) (a .i) (a .j) q (a .out .now) (k .result) out (k .ensures) _ read (omega arith)
+    (c .before .before .before .before .before .before .before .close-up .last .0) (c .before .before .copy-in .last .0) (omega arith)
     (c .before .before .before .before .before .before .before .close-up .ensures) (c .before .before .copy-in .ensures)
 
 pub step-spec : {M : Type 1} → statement M

@@ -14,13 +14,16 @@ slice-aggregate-run-calls-2 : tie.Need-slice-aggregate-run-calls-2
 slice-aggregate-run-calls-2 c = search needs
 
 run-calls-requires : tie.Need-run-calls-requires
-run-calls-requires c κs = asked _ _ (c .before .before .before .curve .ensures) (c .before .before .before .before .before .before .pre .1) _ (c .before .before .before .before .before .before .pre .0)
+run-calls-requires c κs =
+    asked _ _ (c .before .before .before .curve .ensures) (c .before .before .before .before .before .before .pre .1) _ (c .before .before .before .before .before .before .pre .0)
 
 same-length : tie.Need-same-length
 same-length c = search needs
 
 returns : tie.Need-returns
-returns c = few-left _ _ (c .before .before .before .before .before .before .before .curve .ensures) (c .before .before .before .before .before .before .before .before .before .before .pre .1) (c .before .before .before .run-calls .ensures)
+returns c =
+    few-left _ _ (c .before .before .before .before .before .before .before .curve .ensures) (c .before .before .before .before .before .before .before .before .before .before .pre .1)
+    (c .before .before .before .run-calls .ensures)
 
 pub run-spec : {M : Type 1} → statement M
 run-spec =

@@ -34,8 +34,11 @@ times-requires c κs = times-asked (c .before .before .before .before .pre) (c .
 
 add-insert : tie.Need-add-insert Inv-loop μ-loop
 add-insert c =
-    omega
-    (arith, put-degree (c .before .before .before .before .before .before .before .before .pre) (c .before .before .before .before .before .before .loop-test .taken), c .before .before .before .before .before .before .before .before .pre .low)
+    omega (
+      arith,
+      put-degree (c .before .before .before .before .before .before .before .before .pre) (c .before .before .before .before .before .before .loop-test .taken),
+      c .before .before .before .before .before .before .before .before .pre .low,
+    )
 
 insert-requires : tie.Need-insert-requires Inv-loop μ-loop
 insert-requires c κs =

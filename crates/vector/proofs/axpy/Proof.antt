@@ -45,8 +45,11 @@ element-copy-out-mul-add c = search needs
 
 mul-add-requires : tie.Need-mul-add-requires Inv-loop μ-loop
 mul-add-requires c κs =
-    record
-    { below-1 = c .before .before .before .before .before .before .pre .c-below; below-2 = c .before .before .before .before .before .before .pre .b-vec .below _; below-3 = c .before .before .before .before .loop .inv .0 .vec .below _ }
+    record {
+      below-1 = c .before .before .before .before .before .before .pre .c-below;
+      below-2 = c .before .before .before .before .before .before .pre .b-vec .below _;
+      below-3 = c .before .before .before .before .loop .inv .0 .vec .below _;
+    }
 
 mul-r : tie.Need-mul-r Inv-loop μ-loop
 mul-r c = search needs
