@@ -1,7 +1,6 @@
 -- Why the functions on the ground of a curve find what they find.
 pub mod Values
 pub mod Read
-pub mod Size
 pub mod Multiple
 pub mod Walk
 pub mod Lists

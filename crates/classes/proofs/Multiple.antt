@@ -12,9 +12,10 @@ use Rattle.basis.specs.declared.Divisor.{Divisor}
 use Rattle.group.specs.Contract.{NegativeAsked, NegativeOf, MultipleOf}
 use Rattle.reader.specs.Reading.{On, GivenOn}
 use Rattle.calls.specs.Class.{IsListSum, IsMultiple}
-use Rattle.classes.specs.Found.{OnCurves, SignOf, MultipleMade}
-use Rattle.classes.specs.declared.Whole.{Whole}
-use Rattle.classes.specs.declared.Whole.the-variants as whole
+use Rattle.whole.specs.Whole.{SignOf}
+use Rattle.whole.specs.declared.Whole.{Whole}
+use Rattle.whole.specs.declared.Whole.the-variants as whole
+use Rattle.classes.specs.Found.{OnCurves, MultipleMade}
 use Rattle.classes.proofs.Values.{negative-made, times-made}
 
 module _ {g : Ground} {x : Divisor} where

@@ -2,14 +2,13 @@
 --   Curved g               g is the ground of some accepted curve
 --   OnCurves g X           X holds of the bytes c of every accepted curve with the ground g
 --   Found c ss Good r      the stages ss are passed, and r is a divisor by value whose record is good; or r is the number of their first cause
---   SignOf n r             size_of: r is the whole number n by its sign and size
 --   MultipleMade c x n r   multiple_of: the record of r is the multiple by n of the record of x
 --   SumOfList c s w        w is the list sum of the records of the list s
 --   TallyFound c ss s kind r     the stages ss are passed, and r is how many records of the list s have the kind; or r is the number of the cause
 use mathlib.Core.Path.{_≡_}
 use mathlib.Core.List.{List}
-use Prim.Native.Nat.{ℕ, suc}
-use lib.IntN.{ℤ, pos, negsuc}
+use Prim.Native.Nat.{ℕ}
+use lib.IntN.{ℤ}
 use Rattle.ground.specs.declared.Ground.{Ground}
 use Rattle.basis.specs.declared.Divisor.{Divisor}
 use Rattle.record.specs.Cause.{Stage, FirstCause, Passes}
@@ -20,8 +19,6 @@ use Rattle.reader.specs.declared.DivisorAnswer.{DivisorAnswer}
 use Rattle.reader.specs.declared.DivisorAnswer.the-variants as answer
 use Rattle.calls.specs.Class.{IsListSum, IsMultiple}
 use Rattle.calls.specs.Call.{tally}
-use Rattle.classes.specs.declared.Whole.{Whole}
-use Rattle.classes.specs.declared.Whole.the-variants as whole
 use Rattle.classes.specs.declared.TallyAnswer.{TallyAnswer}
 use Rattle.classes.specs.declared.TallyAnswer.the-variants as count
 
@@ -34,10 +31,6 @@ OnCurves g X = (c : List ℕ) → On c g → X c
 abbrev pub Found : (c : List ℕ) → List Stage → (List ℕ → Type 0) → DivisorAnswer → Type 0
 Found c ss Good (answer.Divisor x) = Passes ss × ((w : List ℕ) × Good w × GivenOn c w x)
 Found c ss Good (answer.Refused n) = FirstCause ss n
-
-abbrev pub SignOf : ℤ → Whole → Type 0
-SignOf n (whole.Up m) = n ≡ pos m
-SignOf n (whole.Down m) = (k : ℕ) × (n ≡ negsuc k) × (m ≡ suc k)
 
 abbrev pub MultipleMade : (c : List ℕ) (x : Divisor) (n : ℤ) (r : Divisor) → Type 0
 MultipleMade c x n r = (a : List ℕ) → GivenOn c a x → (w : List ℕ) × IsMultiple c a n w × GivenOn c w r

@@ -5,6 +5,7 @@ use ground::Ground;
 use reader::DivisorAnswer;
 use reader::NextAnswer;
 use reader::TwoAnswer;
+use whole::Whole;
 ghost use mathlib.Core.List.{[], _∷_, _++_};
 ghost use Prim.Native.Nat.{_≤_};
 ghost use Rattle.group.specs.Contract.{NegativeAsked};
@@ -12,13 +13,7 @@ ghost use Rattle.record.specs.Curve.{modulus, equation};
 ghost use Rattle.record.specs.Listed.{list-stage, list-limit};
 ghost use Rattle.calls.specs.Class.{IsSum, IsNegative, IsMultiple};
 ghost use Rattle.calls.specs.Call.{divisor-of, list-of};
-ghost use Rattle.classes.specs.Found.{Curved, OnCurves, Found, SignOf, MultipleMade, SumOfList, TallyFound};
-
-// A whole number by its sign and size: n or −n.
-pub enum Whole {
-    Up(u64),
-    Down(u64),
-}
+ghost use Rattle.classes.specs.Found.{Curved, OnCurves, Found, MultipleMade, SumOfList, TallyFound};
 
 // How many records of a list have a kind, or the number of the first cause of refusal. A list has at most 8,192 records.
 pub enum TallyAnswer {
@@ -113,24 +108,13 @@ fn multiple_of(g: Ground, x: Divisor, n: i64) -> Divisor
     requires { ⌜ NegativeAsked g x ⌝ }
     ensures { λ r. ⌜ OnCurves g (λ c. MultipleMade c x n r) ⌝ }
 {
-    let size = size_of(n);
+    let size = whole::size_of(n);
     match size {
         Whole::Up(m) => group::multiple(g, x, m),
         Whole::Down(m) => {
             let r = group::multiple(g, x, m);
             group::negative(g, r)
         }
-    }
-}
-
-// The sign and the size of n. −n does not fit at the least i64, so n + 1 is negated.
-fn size_of(n: i64) -> Whole
-    ensures { λ r. ⌜ SignOf n r ⌝ }
-{
-    if n >= 0 {
-        Whole::Up(n as u64)
-    } else {
-        Whole::Down(((0 - (n + 1)) as u64) + 1)
     }
 }
 

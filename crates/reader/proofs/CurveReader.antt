@@ -19,9 +19,9 @@ use Rattle.equation.specs.Equation.{curve-of, Coefficients}
 use Rattle.equation.specs.declared.Equation.{Equation}
 use Rattle.record.specs.Cause.{Stage, FirstCause}
 use Rattle.record.specs.Curve.{modulus, coefficient-number, equation, curve-rest}
-use Rattle.reader.specs.Contract.{Checked, coefficient-of, equation-stages}
-use Rattle.reader.specs.Reading.{equation-value}
-use Rattle.reader.proofs.Answer.{nine}
+use Rattle.checks.specs.Contract.{Checked, coefficient-of, equation-value}
+use Rattle.checks.proofs.Answer.{nine}
+use Rattle.reader.specs.Contract.{equation-stages}
 
 pub curve-value : (s : List ℕ) → curve-of (equation-value s) ≡ equation s
 curve-value s i =

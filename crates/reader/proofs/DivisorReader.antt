@@ -24,7 +24,7 @@ use Rattle.basis.specs.Divisor.{numbers, residues, Shaped}
 use Rattle.basis.specs.declared.Divisor.{Divisor}
 use Rattle.basis.specs.Contract.{BasisAsked, BasisTest}
 use Rattle.record.specs.Cause.{FirstCause, Passes}
-use Rattle.reader.specs.Contract.{AllBelow, ValueOf}
+use Rattle.checks.specs.Contract.{AllBelow, ValueOf}
 use Rattle.record.specs.Divisor.{of-kind, number-at, divisor-form, divisor-stages}
 use Rattle.record.specs.Listed.{next-stages}
 use Rattle.reader.specs.Reading.{DivisorGiven, DivisorRead, TwoRead, NextRead}
@@ -33,7 +33,7 @@ use Rattle.reader.specs.declared.DivisorAnswer.the-variants as answer
 use Rattle.reader.specs.declared.TwoAnswer.the-variants as two
 use Rattle.reader.specs.declared.NextAnswer.the-variants as next
 use Rattle.record.proofs.Accepted.{Reads, reads-accepted, same-kind}
-use Rattle.reader.proofs.Answer.{below-at, at-below}
+use Rattle.checks.proofs.Answer.{below-at, at-below}
 use Rattle.record.proofs.Cause.{first-append}
 use Rattle.divisor.proofs.Codes.{count-small, basis-same}
 use Rattle.record.proofs.Written.{Holds, read-back, read-based}

@@ -13,7 +13,8 @@ use Rattle.equation.specs.declared.Equation.{Equation}
 use Rattle.ground.specs.declared.Ground.{Ground}
 use Rattle.ground.specs.Ground.{Unit-of, Grounded, AtGround, GroundAsked, GroundOf}
 use Rattle.record.specs.Curve.{modulus, equation, AcceptedCurve, accepted-prime, accepted-below, setting-of}
-use Rattle.reader.specs.Reading.{equation-value, On}
+use Rattle.checks.specs.Contract.{equation-value}
+use Rattle.reader.specs.Reading.{On}
 use Rattle.reader.proofs.CurveReader.{curve-value, below-coefficients, coefficient-at}
 
 module _ (c : List ℕ) (A : AcceptedCurve c) where

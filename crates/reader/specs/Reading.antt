@@ -1,5 +1,4 @@
 -- What the readers require and ensure, by the cases of their answers.
---   equation-value s       the equation by value of a curve's bytes
 --   CurveRead s a          read_curve: an accepted curve's equation, or the number of the first cause
 --   On c g                 c is an accepted curve, and g its ground
 --   DivisorGiven p C s r   s is accepted, and r is the divisor by value of which s is the record
@@ -29,26 +28,11 @@ use Rattle.reader.specs.declared.TwoAnswer.the-variants as two
 use Rattle.reader.specs.declared.NextAnswer.{NextAnswer}
 use Rattle.reader.specs.declared.NextAnswer.the-variants as next
 use Rattle.record.specs.Cause.{FirstCause, Passes}
-use Rattle.record.specs.Curve.{modulus, coefficient-number, equation, curve-stages, AcceptedCurve}
+use Rattle.record.specs.Curve.{modulus, equation, curve-stages, AcceptedCurve}
 use Rattle.record.specs.Divisor.{divisor-stages, AcceptedDivisor}
 use Rattle.record.specs.Listed.{next-stages}
 use Rattle.record.specs.Value.{bytes-of}
-
-abbrev pub equation-value : List ℕ → Equation
-equation-value s =
-    record {
-      p = modulus s;
-      a0 = 1;
-      c0 = coefficient-number s 0;
-      c1 = coefficient-number s 1;
-      c2 = coefficient-number s 2;
-      c3 = coefficient-number s 3;
-      c4 = coefficient-number s 4;
-      c5 = coefficient-number s 5;
-      c6 = coefficient-number s 6;
-      c7 = coefficient-number s 7;
-      c8 = coefficient-number s 8;
-    }
+use Rattle.checks.specs.Contract.{equation-value}
 
 abbrev pub CurveRead : List ℕ → CurveAnswer → Type 0
 CurveRead s (curve.Curve e) = AcceptedCurve s × (e ≡ equation-value s)

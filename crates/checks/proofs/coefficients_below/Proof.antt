@@ -3,9 +3,9 @@ use borrow.Author.Needs.{needs}
 use native.Mathlib.Omega.{arith}
 use borrow.Author.Tests.{not-true, not-false}
 use Rattle.algebra.proofs.Answers.{answer-no, answer-from}
-use Rattle.reader.proofs.Answer.{nine}
-use Rattle.reader.proofs.coefficients_below.Statement.{statement}
-use Rattle.reader.proofs.coefficients_below.Tie as tie
+use Rattle.checks.proofs.Answer.{nine}
+use Rattle.checks.proofs.coefficients_below.Statement.{statement}
+use Rattle.checks.proofs.coefficients_below.Tie as tie
 
 three-below-requires : tie.Need-three-below-requires
 three-below-requires c κs = search needs

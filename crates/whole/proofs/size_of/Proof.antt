@@ -1,7 +1,7 @@
 -- The steps of Size, at the number given.
-use Rattle.classes.proofs.Size.{size-up-fits, size-up, add-fits, negate-fits, cast-fits, size-fits, size-down}
-use Rattle.classes.proofs.size_of.Statement.{statement}
-use Rattle.classes.proofs.size_of.Tie as tie
+use Rattle.whole.proofs.Size.{size-up-fits, size-up, add-fits, negate-fits, cast-fits, size-fits, size-down}
+use Rattle.whole.proofs.size_of.Statement.{statement}
+use Rattle.whole.proofs.size_of.Tie as tie
 
 cast-t4 : tie.Need-cast-t4
 cast-t4 c = size-up-fits (c .before .args .n) (c .before .fits .n) (c .if1 .taken)

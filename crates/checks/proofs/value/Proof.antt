@@ -1,8 +1,8 @@
 -- Each number is read at its place.
 use borrow.Author.Needs.{needs}
-use Rattle.reader.proofs.Answer.{nine}
-use Rattle.reader.proofs.value.Statement.{statement}
-use Rattle.reader.proofs.value.Tie as tie
+use Rattle.checks.proofs.Answer.{nine}
+use Rattle.checks.proofs.value.Statement.{statement}
+use Rattle.checks.proofs.value.Tie as tie
 
 read-u16-requires : tie.Need-read-u16-requires
 read-u16-requires c κs = search needs

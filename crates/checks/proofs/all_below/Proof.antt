@@ -2,8 +2,8 @@
 use borrow.Author.Needs.{needs}
 use borrow.Author.Tests.{not-true, not-false}
 use Rattle.algebra.proofs.Answers.{answer-no, answer-from}
-use Rattle.reader.proofs.all_below.Statement.{statement}
-use Rattle.reader.proofs.all_below.Tie as tie
+use Rattle.checks.proofs.all_below.Statement.{statement}
+use Rattle.checks.proofs.all_below.Tie as tie
 
 three-below-requires : tie.Need-three-below-requires
 three-below-requires c κs = search needs

@@ -1,7 +1,7 @@
 -- Each number is read at its place.
 use borrow.Author.Needs.{needs}
-use Rattle.reader.proofs.equation.Statement.{statement}
-use Rattle.reader.proofs.equation.Tie as tie
+use Rattle.checks.proofs.equation.Statement.{statement}
+use Rattle.checks.proofs.equation.Tie as tie
 
 read-u32-requires : tie.Need-read-u32-requires
 read-u32-requires c κs = search needs

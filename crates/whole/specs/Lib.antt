@@ -1,0 +1,2 @@
+-- The sign and the size of a whole number.
+pub mod Whole
