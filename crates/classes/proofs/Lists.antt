@@ -2,7 +2,7 @@
 --   Summed x               x is their list sum by value
 --   summed-none, summed-asked, summed-more     of none; x and the next one may be added; one record more
 --   Tallied kind n         n of them have the kind
---   tallied-none, tallied-yes, tallied-no      of none; one record more, which has the kind or has not
+--   tallied-yes, tallied-no      one record more, which has the kind or has not
 use mathlib.Core.Path.{_≡_, refl, sym, _∙_, ap, subst}
 use mathlib.Core.List.{List, [], _∷_, _++_}
 use Prim.Native.Nat.{ℕ, _+_, _<_}
@@ -28,9 +28,8 @@ use Rattle.calls.specs.Call.{tally, one-if}
 use Rattle.calls.specs.Class.{zero-record, IsListSum}
 use Rattle.calls.proofs.Class.{zero-accepted}
 use Rattle.calls.proofs.Multiples.{list-more}
-use Rattle.classes.specs.Found.{Curved}
 use Rattle.classes.proofs.Values.{given-record, sum-made, two-asked}
-use Rattle.classes.proofs.Walk.{Walked, More}
+use Rattle.classes.proofs.Walk.{More}
 
 abbrev pub Summed : Divisor → (c : List ℕ) → List (List ℕ) → Type 0
 Summed x c rs = (w : List ℕ) × IsListSum c rs w × GivenOn c w x

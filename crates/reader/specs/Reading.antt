@@ -14,7 +14,6 @@ use Rattle.field.specs.Residue.{Z}
 use Rattle.curve.specs.Curve.{Curve}
 use Rattle.divisor.specs.Kind.{Kind}
 use Rattle.layout.specs.Layout.{number2}
-use Rattle.equation.specs.declared.Equation.{Equation}
 use Rattle.ground.specs.declared.Ground.{Ground}
 use Rattle.ground.specs.Ground.{GroundOf}
 use Rattle.basis.specs.Divisor.{Based}

@@ -33,7 +33,8 @@ returns-2 : tie.Need-returns-2
 returns-2 c =
     let start = c .before .before .before .before .before .before in
     let size = c .before .before .before .before .before .size-of in
-    multiple-down (start .args .n) (size .result) (rw (toZ-ofZ (start .fits .n)) at (size .ensures)) _ (c .before .before .before .size2 .given .1) (c .before .multiple2 .ensures) (c .negative .ensures)
+    multiple-down (start .args .n) (size .result) (rw (toZ-ofZ (start .fits .n)) at (size .ensures)) _ (c .before .before .before .size2 .given .1) (c .before .multiple2 .ensures)
+    (c .negative .ensures)
 
 pub multiple-of-spec : {M : Type 1} → statement M
 multiple-of-spec = tie.close (tie.spec size-of-requires enum-known-size multiple-requires enum-known-size-2 multiple-requires-2 negative-requires returns returns-2)

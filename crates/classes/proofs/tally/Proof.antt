@@ -72,8 +72,10 @@ loop-again c =
       b .1,
       ⊎-elim (λ w. omega (arith, w .1, b .0, loop .inv .1)) (λ w. omega (arith, w .1, loop .inv .1)) (c .if1 .came),
       ⊎-elim
-          (λ w. subst (λ (m : ℕ). Walked (start .args .g) s (loop .at + n) (Tallied kind m)) (sym (w .1)) (walked-more _ s X (loop .at) (loop .inv .2) _ cut (read .result) (read .ensures) _ _ is (Tallied kind (loop .count + 1)) (tallied-yes kind (loop .count) (w .0 .taken))))
-          (λ w. subst (λ (m : ℕ). Walked (start .args .g) s (loop .at + n) (Tallied kind m)) (sym (w .1)) (walked-more _ s X (loop .at) (loop .inv .2) _ cut (read .result) (read .ensures) _ _ is (Tallied kind (loop .count)) (tallied-no kind (loop .count) (w .0 .left))))
+          (λ w. subst (λ (m : ℕ). Walked (start .args .g) s (loop .at + n) (Tallied kind m)) (sym (w .1))
+          (walked-more _ s X (loop .at) (loop .inv .2) _ cut (read .result) (read .ensures) _ _ is (Tallied kind (loop .count + 1)) (tallied-yes kind (loop .count) (w .0 .taken))))
+          (λ w. subst (λ (m : ℕ). Walked (start .args .g) s (loop .at + n) (Tallied kind m)) (sym (w .1))
+          (walked-more _ s X (loop .at) (loop .inv .2) _ cut (read .result) (read .ensures) _ _ is (Tallied kind (loop .count)) (tallied-no kind (loop .count) (w .0 .left))))
           (c .if1 .came),
     )
 
@@ -86,7 +88,9 @@ returns c k o =
     let s = now (start .args .list) in
     let loop = c .before .before .before .before .before .before .loop in
     let read = c .before .before .before .read-next in
-    inl (walked-refused _ s (Tallied (start .args .kind) (loop .count)) (loop .at) (loop .inv .2) _ (part-from s (loop .at)) (read .result) (read .ensures) _ (c .before .read2 .given .1) (c .before .before .before .before .before .loop-test .taken) k o)
+    inl
+    (walked-refused _ s (Tallied (start .args .kind) (loop .count)) (loop .at) (loop .inv .2) _ (part-from s (loop .at)) (read .result) (read .ensures) _ (c .before .read2 .given .1)
+    (c .before .before .before .before .before .loop-test .taken) k o)
 
 returns-2 : tie.Need-returns-2 Inv-loop μ-loop
 returns-2 c k o =

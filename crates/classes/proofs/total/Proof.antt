@@ -54,7 +54,11 @@ add-at c =
     let s = now (start .args .list) in
     let loop = c .before .before .before .before .before .before .before .loop in
     let read = c .before .before .before .before .read-next in
-    omega (arith, next-bounds _ s (Summed (loop .sum)) (loop .at) (loop .inv .1) _ (part-from s (loop .at)) (read .result) (read .ensures) _ _ (c .before .before .read .given .1) (start .pre) (loop .inv .0))
+    omega (
+      arith,
+      next-bounds _ s (Summed (loop .sum)) (loop .at) (loop .inv .1) _ (part-from s (loop .at)) (read .result) (read .ensures) _ _ (c .before .before .read .given .1) (start .pre)
+          (loop .inv .0),
+    )
 
 loop-less : tie.Need-loop-less Inv-loop μ-loop
 loop-less c =
@@ -62,7 +66,11 @@ loop-less c =
     let s = now (start .args .list) in
     let loop = c .before .before .before .before .before .before .before .loop in
     let read = c .before .before .before .before .read-next in
-    omega (arith, next-bounds _ s (Summed (loop .sum)) (loop .at) (loop .inv .1) _ (part-from s (loop .at)) (read .result) (read .ensures) _ _ (c .before .before .read .given .1) (start .pre) (loop .inv .0))
+    omega (
+      arith,
+      next-bounds _ s (Summed (loop .sum)) (loop .at) (loop .inv .1) _ (part-from s (loop .at)) (read .result) (read .ensures) _ _ (c .before .before .read .given .1) (start .pre)
+          (loop .inv .0),
+    )
 
 loop-again : tie.Need-loop-again Inv-loop μ-loop
 loop-again c =
@@ -72,7 +80,8 @@ loop-again c =
     let read = c .before .before .before .before .read-next in
     let cut = part-from s (loop .at) in (
       next-bounds _ s (Summed (loop .sum)) (loop .at) (loop .inv .1) _ cut (read .result) (read .ensures) _ _ (c .before .before .read .given .1) (start .pre) (loop .inv .0) .1,
-      walked-more _ s (Summed (loop .sum)) (loop .at) (loop .inv .1) _ cut (read .result) (read .ensures) _ _ (c .before .before .read .given .1) (Summed (c .sum .result)) (summed-more (c .sum .ensures)),
+      walked-more _ s (Summed (loop .sum)) (loop .at) (loop .inv .1) _ cut (read .result) (read .ensures) _ _ (c .before .before .read .given .1) (Summed (c .sum .result))
+          (summed-more (c .sum .ensures)),
     )
 
 enum-known-read-2 : tie.Need-enum-known-read-2 Inv-loop μ-loop
@@ -83,7 +92,9 @@ returns c k o =
     let s = now (c .before .before .before .before .before .before .before .before .before .args .list) in
     let loop = c .before .before .before .before .before .before .loop in
     let read = c .before .before .before .read-next in
-    inl (walked-refused _ s (Summed (loop .sum)) (loop .at) (loop .inv .1) _ (part-from s (loop .at)) (read .result) (read .ensures) _ (c .before .read2 .given .1) (c .before .before .before .before .before .loop-test .taken) k o)
+    inl
+    (walked-refused _ s (Summed (loop .sum)) (loop .at) (loop .inv .1) _ (part-from s (loop .at)) (read .result) (read .ensures) _ (c .before .read2 .given .1)
+    (c .before .before .before .before .before .loop-test .taken) k o)
 
 returns-2 : tie.Need-returns-2 Inv-loop μ-loop
 returns-2 c k o =

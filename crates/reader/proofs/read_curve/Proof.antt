@@ -33,8 +33,10 @@ returns-2 c =
 returns-3 : tie.Need-returns-3
 returns-3 c =
     let s = now (c .before .before .before .before .before .before .args .s) in
-    let k = equation-checked s (c .before .before .equation .result) (c .before .equation-cause .result) (c .before .before .equation .ensures) (c .before .equation-cause .ensures) in
-    (passes-append (curve-form s) (rest-of s) .1 (c .before .before .before .before .curve-form .ensures .passes (c .before .before .before .if1 .left), k .passes (c .if2 .left)), c .before .before .equation .ensures)
+    let k = equation-checked s (c .before .before .equation .result) (c .before .equation-cause .result) (c .before .before .equation .ensures) (c .before .equation-cause .ensures) in (
+      passes-append (curve-form s) (rest-of s) .1 (c .before .before .before .before .curve-form .ensures .passes (c .before .before .before .if1 .left), k .passes (c .if2 .left)),
+      c .before .before .equation .ensures,
+    )
 
 pub read-curve-spec : {M : Type 1} → statement M
 read-curve-spec =
