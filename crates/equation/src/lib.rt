@@ -68,19 +68,19 @@ pub fn cube(e: Equation) -> [u32; 26]
     ]
 }
 
-// Is the curve nonsingular? f is the vector of y³. The ideal of the two derivatives is the whole ring exactly then.
-pub fn nonsingular(e: Equation, f: &[u32; 26]) -> bool
-    requires { ⌜ TestAsked e (now f) ⌝ }
+// Is the curve nonsingular? cube is the vector of y³. The ideal of the two derivatives is the whole ring exactly then.
+pub fn nonsingular(e: Equation, cube: &[u32; 26]) -> bool
+    requires { ⌜ TestAsked e (now cube) ⌝ }
     ensures { λ r. ⌜ Answers (Nonsingular (curve-of e)) r ⌝ }
 {
     let p = e.p;
     let mut t = [[0u32; 26]; 3];
     let mut d = [26usize; 3];
     let v = derivative_y(e);
-    let ys = multiplication::y_multiples(p, f, &v, 9);
+    let ys = multiplication::y_multiples(p, cube, &v, 9);
     triple::insert_all(p, &mut t, &mut d, &ys, 9);
     let w = derivative_x(e);
-    let zs = multiplication::y_multiples(p, f, &w, 10);
+    let zs = multiplication::y_multiples(p, cube, &w, 10);
     triple::insert_all(p, &mut t, &mut d, &zs, 10);
     triple::whole(&d)
 }

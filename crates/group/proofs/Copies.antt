@@ -19,7 +19,7 @@ use Rattle.triple.specs.Setting.{Setting, ring, poles-of}
 use Rattle.ground.specs.declared.Ground.{Ground}
 use Rattle.ground.specs.Ground.{Grounded}
 use Rattle.basis.specs.declared.Divisor.{Divisor}
-use Rattle.group.specs.Contract.{IsDivisor, ideal, SumAsked, SumOf, IsMultiple, ZeroClass}
+use Rattle.group.specs.Contract.{IsDivisor, ideal, SumAsked, SumOf, IsCopies, ZeroClass}
 use Rattle.group.proofs.Divisor.{divisor-footprint, kind-zero, zero-divisor}
 use Rattle.group.proofs.Sums.{sum-equivalent}
 
@@ -51,15 +51,15 @@ module _ {g : Ground} (G : Grounded g) {a : Divisor} (D : IsDivisor (G .ready .s
   copies-ideal (suc m) = (divisor-footprint S D .ideal, copies-ideal m)
 
   -- the zero class stands for no copy
-  copies-none : {r : Divisor} → ZeroClass r → IsMultiple S a D 0 r
+  copies-none : {r : Divisor} → ZeroClass r → IsCopies S a D 0 r
   copies-none z = (zero-divisor S z, equivalent-same (poles-of S) (kind-zero S (zero-divisor S z) (z .kind)))
 
   -- a stands for one copy of itself
-  copies-one : IsMultiple S a D 1 a
+  copies-one : IsCopies S a D 1 a
   copies-one = (D, equivalent-same (poles-of S) (productof-one (ring S) I tt (divisor-footprint S D .ideal)))
 
   -- the sum of i and j copies stands for i + j copies
-  copies-sum : (i j : ℕ) {x y r : Divisor} → IsMultiple S a D i x → IsMultiple S a D j y → SumOf g x y r → IsMultiple S a D (i + j) r
+  copies-sum : (i j : ℕ) {x y r : Divisor} → IsCopies S a D i x → IsCopies S a D j y → SumOf g x y r → IsCopies S a D (i + j) r
   copies-sum i j (X, e) (Y, e′) s =
       let z = sum-equivalent s (record { grounded = G; a-is = X; b-is = Y }) in
       let join = productof-join (poles-of S) I (replicate i tt) (replicate j tt) (copies-ideal i) (copies-ideal j) (equivalent-sym (poles-of S) e) (equivalent-sym (poles-of S) e′) in
@@ -69,8 +69,8 @@ module _ {g : Ground} (G : Grounded g) {a : Divisor} (D : IsDivisor (G .ready .s
   pub record Held (m w : ℕ) (r b : Divisor) (n : ℕ) : Type 0 where
     pub i : ℕ
     pub j : ℕ
-    pub r-is : IsMultiple S a D i r
-    pub b-is : IsMultiple S a D j b
+    pub r-is : IsCopies S a D i r
+    pub b-is : IsCopies S a D j b
     pub total : i + n * (w * j) ≡ m
 
   pub held-add : {m w : ℕ} {r b : Divisor} {n : ℕ} → Held m w r b n → SumAsked g r b
@@ -97,8 +97,8 @@ module _ {g : Ground} (G : Grounded g) {a : Divisor} (D : IsDivisor (G .ready .s
     held-double {n = n} h q =
         record { i = h .i; j = h .j + h .j; r-is = h .r-is; b-is = copies-sum (h .j) (h .j) (h .b-is) (h .b-is) q; total = double-total n (h .i) (h .j) ∙ h .total }
 
-    pub held-end : {r b : Divisor} {n : ℕ} → Held m 1 r b n → n ≡ 0 → IsMultiple S a D m r
-    held-end {r} h e = subst (λ i. IsMultiple S a D i r) (all ∙ ap (λ u. h .i + u * (1 * h .j)) (sym e) ∙ h .total) (h .r-is)
+    pub held-end : {r b : Divisor} {n : ℕ} → Held m 1 r b n → n ≡ 0 → IsCopies S a D m r
+    held-end {r} h e = subst (λ i. IsCopies S a D i r) (all ∙ ap (λ u. h .i + u * (1 * h .j)) (sym e) ∙ h .total) (h .r-is)
       where
         all : h .i ≡ h .i + 0 * (1 * h .j)
         all = omega arith

@@ -5,7 +5,7 @@
 --   SumAsked, SumOf                sum: it is the reduced ideal of the product
 --   ProductStarOf                  product_star: it is J*, for the product J
 --   copies S a D m                 the product of m copies of the ideal of a
---   IsMultiple S a D m r           r is a divisor, and its ideal is equivalent to that product
+--   IsCopies S a D m r           r is a divisor, and its ideal is equivalent to that product
 --   MultipleOf                     multiple: the result is such a divisor
 --   ZeroClass r                    zero_class: kind 0, and no number
 use mathlib.Core.Path.{_≡_}
@@ -59,11 +59,11 @@ ProductStarOf g a b r =
 abbrev pub copies : {p : ℕ} (S : Setting p) (a : Divisor) → IsDivisor S a → ℕ → ring S .Car → Type 0
 copies S a D m = ProductOf (ring S) (λ (_ : Unit {0}). ideal S a D) (replicate m tt)
 
-abbrev pub IsMultiple : {p : ℕ} (S : Setting p) (a : Divisor) → IsDivisor S a → ℕ → Divisor → Type 0
-IsMultiple S a D m r = (E : IsDivisor S r) × Equivalent (ring S) (copies S a D m) (ideal S r E)
+abbrev pub IsCopies : {p : ℕ} (S : Setting p) (a : Divisor) → IsDivisor S a → ℕ → Divisor → Type 0
+IsCopies S a D m r = (E : IsDivisor S r) × Equivalent (ring S) (copies S a D m) (ideal S r E)
 
 abbrev pub MultipleOf : (g : Ground) (a : Divisor) (m : ℕ) (r : Divisor) → Type 0
-MultipleOf g a m r = (A : NegativeAsked g a) → IsMultiple (A .grounded .ready .setting) a (A .a-is) m r
+MultipleOf g a m r = (A : NegativeAsked g a) → IsCopies (A .grounded .ready .setting) a (A .a-is) m r
 
 pub record ZeroClass (r : Divisor) : Type 0 where
   pub kind : r .kind ≡ 0

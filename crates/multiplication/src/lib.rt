@@ -5,27 +5,27 @@ ghost use Rattle.multiplication.specs.Contract.{TimesYAsked, TimesY, YMu
 use crate::normal::X_POLE;
 use crate::normal::Y_POWER;
 
-// y·v for v below top, where f is y³.
-pub fn times_y(p: u32, f: &[u32; 26], v: &[u32; 26], top: usize) -> [u32; 26]
-    requires { ⌜ TimesYAsked p (now f) (now v) top ⌝ }
-    ensures { λ r. ⌜ TimesY p (now (f .entry)) (now (v .entry)) top r ⌝ }
+// y·v for v below top, where cube is y³.
+pub fn times_y(p: u32, cube: &[u32; 26], v: &[u32; 26], top: usize) -> [u32; 26]
+    requires { ⌜ TimesYAsked p (now cube) (now v) top ⌝ }
+    ensures { λ r. ⌜ TimesY p (now (cube .entry)) (now (v .entry)) top r ⌝ }
 {
     let mut out = shift_y(v, top);
     let mut n = 8;
     while n < top {
-        vector::axpy(p, &mut out, v[n], f, n - 8, 13);
+        vector::axpy(p, &mut out, v[n], cube, n - 8, 13);
         n += 3;
     }
     out
 }
 
-// v, y·v and y²·v for v below top, where f is y³.
-pub fn y_multiples(p: u32, f: &[u32; 26], v: &[u32; 26], top: usize) -> [[u32; 26]; 3]
-    requires { ⌜ YMultiplesAsked p (now f) (now v) top ⌝ }
-    ensures { λ r. ⌜ YMultiples p (now (f .entry)) (now (v .entry)) top r ⌝ }
+// v, y·v and y²·v for v below top, where cube is y³.
+pub fn y_multiples(p: u32, cube: &[u32; 26], v: &[u32; 26], top: usize) -> [[u32; 26]; 3]
+    requires { ⌜ YMultiplesAsked p (now cube) (now v) top ⌝ }
+    ensures { λ r. ⌜ YMultiples p (now (cube .entry)) (now (v .entry)) top r ⌝ }
 {
-    let a = times_y(p, f, v, top);
-    let b = times_y(p, f, &a, top + 4);
+    let a = times_y(p, cube, v, top);
+    let b = times_y(p, cube, &a, top + 4);
     [*v, a, b]
 }
 

@@ -52,8 +52,8 @@ fn equation_cause(e: Equation) -> u8
     if !checks::coefficients_below(e) {
         return 4;
     }
-    let f = equation::cube(e);
-    if !equation::nonsingular(e, &f) {
+    let cube = equation::cube(e);
+    if !equation::nonsingular(e, &cube) {
         return 5;
     }
     0

@@ -30,7 +30,7 @@ use Rattle.triple.proofs.Members.{each-row, row-each}
 use Rattle.triple.proofs.Leads.{full-of, spanned-lead}
 use Rattle.triple.proofs.Listed.{listed-each, listed-at, listed-rest, span-cons, listed-same}
 use Rattle.triple.proofs.Empty.{no-rows, no-degrees, empty-triple, empty-same}
-use Rattle.span.specs.Contract.{ProductAsked, Multiplied, PutAsked, Put}
+use Rattle.span.specs.Contract.{ProductAsked, Multiplied, PutAsked, ProductsPut}
 
 module _ {R : CommRing} (P : Poles R) where
   every-products : (Q : R .Car → Type 0) (gs hs : List (R .Car)) → Every (λ g. Every (λ h. Q (R .mul g h)) hs) gs → Every Q (products R gs hs)
@@ -78,7 +78,7 @@ module _ {p top : ℕ} {t₁ : List (List ℕ)} {d₁ : List ℕ} {ys t : List (
               (same-trans (ring S) (r .same S) (span-cons (poles-of S) (elements S t′) (listed (λ i. ring S .mul (element p (S .curve) (row t₁ i)) g) i (elements S t))
               (element p (S .curve) v) (q .same S g o)))
 
-pub put-end : {p i : ℕ} {t₁ ys t t′ : List (List ℕ)} {d′ : List ℕ} → Putting p t₁ ys t t′ d′ i → 3 ≤ i → Put p t₁ ys t t′ d′
+pub put-end : {p i : ℕ} {t₁ ys t t′ : List (List ℕ)} {d′ : List ℕ} → Putting p t₁ ys t t′ d′ i → 3 ≤ i → ProductsPut p t₁ ys t t′ d′
 put-end {p} {i} {t₁} {ys} {t} {t′} {d′} q l = record { triple = q .triple; same = subst (Putting p t₁ ys t t′ d′) {x = i} {y = 3} (omega (arith, q .bound)) q .same }
 
 -- the products of all members of the first triple with the first j of the second, the last one first
@@ -116,7 +116,7 @@ module _ {p : ℕ} {f : List ℕ} {t₁ : List (List ℕ)} {d₁ : List ℕ} {t�
       pub products-asked : PutAsked p t₁ d₁ ys (at d₂ j + 1) t d
       products-asked = record { prime = prime; full = h .full₁; small = h .small₁; rows = m .rows; low = omega (arith, h .small₂ j l); triple = q .triple }
 
-      pub multiply-more : {t′ : List (List ℕ)} {d′ : List ℕ} → Put p t₁ ys t t′ d′ → Multiplying p f t₁ t₂ t′ d′ (j + 1)
+      pub multiply-more : {t′ : List (List ℕ)} {d′ : List ℕ} → ProductsPut p t₁ ys t t′ d′ → Multiplying p f t₁ t₂ t′ d′ (j + 1)
       multiply-more {t′} {d′} r = subst (Multiplying p f t₁ t₂ t′ d′) (sym (add-one j)) (record { bound = l; triple = r .triple; same = same })
         where
           same : (R : Ready p f) → SameIdeal (ring (R .setting)) (Spanned (R .setting) t′) (Span (poles-of (R .setting)) (outer (R .setting) t₁ t₂ (suc j)))

@@ -5,7 +5,7 @@
 --   ClosedAsked, ClosedTest      closed: is the span closed under y
 --   AtAsked, AtTest              closed_at: is y times the j-th member in the span
 --   ProductAsked, Multiplied     product: the span is the product ideal
---   PutAsked, Put                insert_products: the span afterwards is that of the triple and the products
+--   PutAsked, ProductsPut                insert_products: the span afterwards is that of the triple and the products
 use mathlib.Core.Path.{_≡_}
 use mathlib.Core.Bool.{Bool, true, false}
 use mathlib.Core.List.{List}
@@ -88,7 +88,7 @@ pub record PutAsked (p : ℕ) (t₁ : List (List ℕ)) (d₁ : List ℕ) (ys : L
   pub low : top ≤ 9
   pub triple : Triple p t d
 
-pub record Put (p : ℕ) (t₁ ys t t′ : List (List ℕ)) (d′ : List ℕ) : Type 0 where
+pub record ProductsPut (p : ℕ) (t₁ ys t t′ : List (List ℕ)) (d′ : List ℕ) : Type 0 where
   pub triple : Triple p t′ d′
   pub same :
       (S : Setting p) (g : ring S .Car) → RowsOf p (S .curve) ys g →

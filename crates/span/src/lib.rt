@@ -1,5 +1,5 @@
 // The span of a triple: the rest of a vector by it, whether it is closed under y, and the product of two spans.
-ghost use Rattle.span.specs.Contract.{ReduceAsked, Rest, ClosedAsked, ClosedTest, AtAsked, AtTest, ProductAsked, Multiplied, PutAsked, Put};
+ghost use Rattle.span.specs.Contract.{ReduceAsked, Rest, ClosedAsked, ClosedTest, AtAsked, AtTest, ProductAsked, Multiplied, PutAsked, ProductsPut};
 
 // v, which is below top, less a member of the span, with no coefficient left at a lead of the span.
 pub fn reduce(p: u32, t: &[[u32; 26]; 3], d: &[usize; 3], v: &mut [u32; 26], top: usize)
@@ -18,13 +18,13 @@ pub fn reduce(p: u32, t: &[[u32; 26]; 3], d: &[usize; 3], v: &mut [u32; 26], top
 }
 
 // Is the span closed under y?
-pub fn closed(p: u32, f: &[u32; 26], t: &[[u32; 26]; 3], d: &[usize; 3]) -> bool
-    requires { ⌜ ClosedAsked p (now f) (now t) (now d) ⌝ }
-    ensures { λ r. ⌜ ClosedTest p (now (f .entry)) (now (t .entry)) (now (d .entry)) r ⌝ }
+pub fn closed(p: u32, cube: &[u32; 26], t: &[[u32; 26]; 3], d: &[usize; 3]) -> bool
+    requires { ⌜ ClosedAsked p (now cube) (now t) (now d) ⌝ }
+    ensures { λ r. ⌜ ClosedTest p (now (cube .entry)) (now (t .entry)) (now (d .entry)) r ⌝ }
 {
     let mut j = 0;
     while j < 3 {
-        if !closed_at(p, f, t, d, j) {
+        if !closed_at(p, cube, t, d, j) {
             return false;
         }
         j += 1;
@@ -33,12 +33,12 @@ pub fn closed(p: u32, f: &[u32; 26], t: &[[u32; 26]; 3], d: &[usize; 3]) -> bool
 }
 
 // Is y times the j-th member in the span?
-fn closed_at(p: u32, f: &[u32; 26], t: &[[u32; 26]; 3], d: &[usize; 3], j: usize) -> bool
-    requires { ⌜ AtAsked p (now f) (now t) (now d) j ⌝ }
-    ensures { λ r. ⌜ AtTest p (now (f .entry)) (now (t .entry)) (now (d .entry)) j r ⌝ }
+fn closed_at(p: u32, cube: &[u32; 26], t: &[[u32; 26]; 3], d: &[usize; 3], j: usize) -> bool
+    requires { ⌜ AtAsked p (now cube) (now t) (now d) j ⌝ }
+    ensures { λ r. ⌜ AtTest p (now (cube .entry)) (now (t .entry)) (now (d .entry)) j r ⌝ }
 {
     let e = d[j];
-    let mut v = multiplication::times_y(p, f, &t[j], e + 1);
+    let mut v = multiplication::times_y(p, cube, &t[j], e + 1);
     reduce(p, t, d, &mut v, e + 5);
     vector::is_zero(&v)
 }
@@ -47,7 +47,7 @@ fn closed_at(p: u32, f: &[u32; 26], t: &[[u32; 26]; 3], d: &[usize; 3], j: usize
 // class 0 come first: they are monic and fill the three classes.
 pub fn product(
     p: u32,
-    f: &[u32; 26],
+    cube: &[u32; 26],
     t1: &[[u32; 26]; 3],
     d1: &[usize; 3],
     t2: &[[u32; 26]; 3],
@@ -55,15 +55,15 @@ pub fn product(
     t: &mut [[u32; 26]; 3],
     d: &mut [usize; 3],
 )
-    requires { ⌜ ProductAsked p (now f) (now t1) (now d1) (now t2) (now d2) ⌝ }
-    ensures { λ _. ⌜ Multiplied p (now (f .entry)) (now (t1 .entry)) (now (t2 .entry)) (now (t .exit)) (now (d .exit)) ⌝ }
+    requires { ⌜ ProductAsked p (now cube) (now t1) (now d1) (now t2) (now d2) ⌝ }
+    ensures { λ _. ⌜ Multiplied p (now (cube .entry)) (now (t1 .entry)) (now (t2 .entry)) (now (t .exit)) (now (d .exit)) ⌝ }
 {
     *t = [[0u32; 26]; 3];
     *d = [26usize; 3];
     let mut j = 0;
     while j < 3 {
         let e = d2[j];
-        let ys = multiplication::y_multiples(p, f, &t2[j], e + 1);
+        let ys = multiplication::y_multiples(p, cube, &t2[j], e + 1);
         insert_products(p, t1, d1, &ys, e + 1, t, d);
         j += 1;
     }
@@ -80,7 +80,7 @@ fn insert_products(
     d: &mut [usize; 3],
 )
     requires { ⌜ PutAsked p (now t1) (now d1) (now ys) top (now t) (now d) ⌝ }
-    ensures { λ _. ⌜ Put p (now (t1 .entry)) (now (ys .entry)) (now (t .entry)) (now (t .exit)) (now (d .exit)) ⌝ }
+    ensures { λ _. ⌜ ProductsPut p (now (t1 .entry)) (now (ys .entry)) (now (t .entry)) (now (t .exit)) (now (d .exit)) ⌝ }
 {
     let mut i = 0;
     while i < 3 {
