@@ -4,7 +4,9 @@
 --   reads-whole        its bytes are those of its kind and numbers
 --   same-kind          a record has one kind
 --   ideal-reads        its ideal is that of its kind and numbers
-use mathlib.Core.Path.{_≡_, sym, ap, _∙_, subst}
+--   other-length       a record whose length is not that of its kind is refused with 6
+use mathlib.Core.Path.{_≡_, refl, sym, ap, _∙_, subst}
+use mathlib.Core.Logic.{inl, inr}
 use mathlib.Core.List.{List}
 use Prim.Native.Nat.{ℕ, _+_, _*_, _<_}
 use native.Mathlib.Omega.{arith}
@@ -16,7 +18,8 @@ use Rattle.curve.specs.Curve.{Curve, Coordinate}
 use Rattle.divisor.specs.Kind.{Kind, code, count, size, IdealOf, IsBasis}
 use Rattle.layout.specs.Layout.{Bytes, number2, number4, numbers, record-bytes}
 use Rattle.layout.proofs.Record.{record-whole}
-use Rattle.record.specs.Divisor.{of-kind, number-at, AcceptedDivisor, IdealOfBytes}
+use Rattle.record.specs.Cause.{FirstCause, Sized}
+use Rattle.record.specs.Divisor.{of-kind, number-at, divisor-stages, AcceptedDivisor, IdealOfBytes}
 use Rattle.divisor.proofs.Codes.{code-injective}
 
 pub same-kind : (s : List ℕ) (κ κ′ : Kind) → of-kind s κ → of-kind s κ′ → κ ≡ κ′
@@ -61,3 +64,7 @@ module _ (p : ℕ) (C : Curve (Z p)) where
     λ i. subst (λ (q : Kind). IdealOf C q (number-at p s) g) (same-kind s (i .0) κ (i .1) e) (i .2),
     λ i. (κ, e, i),
   )
+
+  -- "length not that of its kind": 6
+  pub other-length : (κ : Kind) (s : List ℕ) → Sized s → of-kind s κ → ¬ (length s ≡ size κ) → FirstCause (divisor-stages p C s) 6
+  other-length κ s h e n = inr (h, inr ((κ, e), inl (λ f. n (f κ e), refl)))
