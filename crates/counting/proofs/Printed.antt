@@ -25,9 +25,9 @@ use Rattle.divisor.proofs.Codes.{size-least, size-most}
 use Rattle.reader.proofs.Answer.{written-out}
 use Rattle.calls.specs.Call.{room, list-of}
 use Rattle.report.specs.Report.{refused-line, lines, refused, counted}
-use Rattle.printing.specs.declared.Tallies.{Tallies}
+use Rattle.tallies.specs.declared.Tallies.{Tallies}
 use Rattle.printing.specs.Contracts.{longest, AllPut}
-use Rattle.printing.proofs.More.{tallies-bounded}
+use Rattle.tallies.proofs.More.{tallies-bounded}
 use Rattle.counting.specs.declared.PassAnswer.{PassAnswer}
 use Rattle.counting.specs.declared.PassAnswer.the-variants as answer
 use Rattle.counting.specs.Contracts.{PassFound, Printable, PassPut, PrintedOn}

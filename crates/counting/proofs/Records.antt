@@ -19,9 +19,9 @@ use Rattle.record.proofs.Lists.{listed-short}
 use Rattle.classes.specs.Found.{Curved}
 use Rattle.classes.proofs.Walk.{Walked, More}
 use Rattle.classes.proofs.Lists.{summed-none, summed-asked, summed-more}
-use Rattle.printing.specs.declared.Tallies.{Tallies}
-use Rattle.printing.specs.Tallied.{TalliesOf, Bounded, AddedTo}
-use Rattle.printing.proofs.More.{tallies-bounded, record-given}
+use Rattle.tallies.specs.declared.Tallies.{Tallies}
+use Rattle.tallies.specs.Tallied.{TalliesOf, Bounded, AddedTo}
+use Rattle.tallies.proofs.More.{tallies-bounded, record-given}
 use Rattle.counting.specs.declared.PassAnswer.{PassAnswer}
 use Rattle.counting.specs.declared.PassAnswer.the-variants as answer
 use Rattle.counting.specs.Contracts.{Totals, PassFound}

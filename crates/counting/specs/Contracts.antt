@@ -17,8 +17,8 @@ use Rattle.kind.specs.Kinds.{Known}
 use Rattle.reader.specs.Reading.{GivenOn}
 use Rattle.calls.specs.Class.{IsListSum}
 use Rattle.report.specs.Report.{refused-line, lines, ReportOn}
-use Rattle.printing.specs.declared.Tallies.{Tallies}
-use Rattle.printing.specs.Tallied.{TalliesOf}
+use Rattle.tallies.specs.declared.Tallies.{Tallies}
+use Rattle.tallies.specs.Tallied.{TalliesOf}
 use Rattle.printing.specs.Contracts.{longest}
 use Rattle.counting.specs.declared.PassAnswer.{PassAnswer}
 use Rattle.counting.specs.declared.PassAnswer.the-variants as answer

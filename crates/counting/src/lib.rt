@@ -1,9 +1,9 @@
 // The counting program: the report on an input, put into a lent buffer; crate report, specs/Report.antt, says what that is.
 use basis::Divisor;
 use ground::Ground;
-use printing::Tallies;
 use reader::CurveAnswer;
 use reader::NextAnswer;
+use tallies::Tallies;
 ghost use mathlib.Core.List.{[], _∷_};
 ghost use mathlib.Core.Path.{_≡_};
 ghost use Prim.Native.Nat.{_≤_, min};
@@ -35,14 +35,14 @@ fn pass(g: Ground, list: &[u8]) -> PassAnswer
     ensures { λ r. ⌜ OnCurves g (λ c. PassFound c (list-stage (modulus c) (equation c) (now (list .entry)) ∷ []) (now (list .entry)) r) ⌝ }
 {
     let mut sum = group::zero_class();
-    let mut tallies = printing::no_records();
+    let mut tallies = tallies::no_records();
     let mut at = 0;
     while at < list.len() {
         let read = reader::read_next(g, &list[at..]);
         match read {
             NextAnswer::Next(x, n) => {
                 let s = group::sum(g, sum, x);
-                let t = printing::add(tallies, x);
+                let t = tallies::add(tallies, x);
                 sum = s;
                 tallies = t;
                 at += n;

@@ -1,3 +1,2 @@
--- The lines of a report piece by piece, and tallies of one record more.
+-- The lines of a report piece by piece.
 pub mod Lines
-pub mod More

@@ -1,6 +1,7 @@
 -- Lines as they are put piece by piece.
 --   share-none, share-some    the line of the share for no record, and for some
 --   share-small      a share is 10,000 hundredths at most
+--   lines-tallied    the report by the tallies
 --   spaced-more      the numbers of a record behind spaces: one number more
 use mathlib.Core.Path.{_≡_, refl, sym, ap, _∙_}
 use mathlib.Core.List.{List, [], _∷_, _++_, append-assoc, append-nil}
@@ -11,7 +12,9 @@ use native.Mathlib.Omega.{arith}
 use Rattle.text.specs.Ascii.{ascii}
 use Rattle.text.specs.Decimal.{decimal}
 use Rattle.layout.specs.Layout.{number4, numbers}
-use Rattle.report.specs.Report.{rounded, per-cent, share-line, spaced}
+use Rattle.report.specs.Report.{rounded, per-cent, count-lines, share-line, spaced, sum-line, lines}
+use Rattle.tallies.specs.declared.Tallies.{Tallies}
+use Rattle.tallies.specs.Tallied.{TalliesOf}
 
 pub share-none : (t n : ℕ) → n ≡ 0 → share-line t n ≡ ascii "share none\n"
 unfolding share-line
@@ -47,3 +50,10 @@ spaced-more w i n e =
     ap (λ (k : ℕ). spaced (numbers w 4 k)) (add-one i)
     ∙ ap spaced (numbers-more w 4 i ∙ ap (λ (m : ℕ). numbers w 4 i ++ (m ∷ [])) (sym e))
     ∙ spaced-last (numbers w 4 i) n
+
+-- the report by the tallies
+pub lines-tallied : (rs : List (List ℕ)) (w : List ℕ) (t : Tallies) → TalliesOf rs t
+    → count-lines (t .n0) (t .n11) (t .n21) (t .n22) (t .n31) ++ share-line (t .typical) (t .total) ++ sum-line w ≡ lines rs w
+unfolding lines
+lines-tallied rs w t h =
+    rw (h .is-0, h .is-11, h .is-21, h .is-22, h .is-31, h .is-typical, h .is-total) refl

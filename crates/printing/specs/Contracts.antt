@@ -6,8 +6,8 @@ use mathlib.Core.List.{List}
 use Prim.Native.Nat.{ℕ, _≤_}
 use Rattle.text.specs.Put.{Put}
 use Rattle.report.specs.Report.{lines}
-use Rattle.printing.specs.declared.Tallies.{Tallies}
-use Rattle.printing.specs.Tallied.{TalliesOf}
+use Rattle.tallies.specs.declared.Tallies.{Tallies}
+use Rattle.tallies.specs.Tallied.{TalliesOf}
 
 abbrev pub longest : ℕ
 longest = 256

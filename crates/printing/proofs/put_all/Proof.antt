@@ -1,7 +1,7 @@
 -- `printing::put_all` meets its contract: the counts, the share and the sum, one after the other.
 use native.Mathlib.Omega.{arith}
 use Rattle.text.proofs.Put.{put-then}
-use Rattle.printing.proofs.More.{lines-tallied}
+use Rattle.printing.proofs.Lines.{lines-tallied}
 use borrow.Author.Needs.{needs}
 use Rattle.printing.proofs.put_all.Statement.{statement}
 use Rattle.printing.proofs.put_all.Tie as tie

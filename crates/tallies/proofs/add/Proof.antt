@@ -1,8 +1,8 @@
--- `printing::add` meets its contract: each tally is at most the number of all records, so one more fits.
-use Rattle.printing.proofs.More.{tallies-more}
+-- `tallies::add` meets its contract: each tally is at most the number of all records, so one more fits.
+use Rattle.tallies.proofs.More.{tallies-more}
 use borrow.Author.Needs.{needs}
-use Rattle.printing.proofs.add.Statement.{statement}
-use Rattle.printing.proofs.add.Tie as tie
+use Rattle.tallies.proofs.add.Statement.{statement}
+use Rattle.tallies.proofs.add.Tie as tie
 
 of-kind-requires : tie.Need-of-kind-requires
 of-kind-requires c κs = search needs

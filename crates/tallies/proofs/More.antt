@@ -3,7 +3,6 @@
 --   record-given       an accepted record is that of the divisor by value that was read
 --   typical-kind       a record of a kind is typical exactly if the kind is 31
 --   tallies-more       the tallies of a list and one record more
---   lines-tallied      the report by the tallies
 use mathlib.Core.Path.{_≡_, refl, sym, ap, ap₂, _∙_}
 use mathlib.Core.Bool.{Bool, true, false}
 use mathlib.Core.List.{List, [], _∷_, _++_}
@@ -18,9 +17,9 @@ use Rattle.basis.specs.declared.Divisor.{Divisor}
 use Rattle.reader.specs.Reading.{DivisorGiven}
 use Rattle.record.proofs.Written.{bytes-of-kind}
 use Rattle.calls.specs.Call.{one-if, tally}
-use Rattle.report.specs.Report.{typical, typicals, count-lines, share-line, sum-line, lines}
-use Rattle.printing.specs.declared.Tallies.{Tallies}
-use Rattle.printing.specs.Tallied.{TalliesOf, Bounded, OneIf, HasRecord, TypicalTest, AddedTo}
+use Rattle.report.specs.Report.{typical, typicals}
+use Rattle.tallies.specs.declared.Tallies.{Tallies}
+use Rattle.tallies.specs.Tallied.{TalliesOf, Bounded, OneIf, HasRecord, TypicalTest, AddedTo}
 
 one-most : (b : Bool) → one-if b ≤ 1
 one-most true = omega arith
@@ -98,10 +97,3 @@ module _ (t : Tallies) (x : Divisor) {m0 m11 m21 m22 m31 mt : ℕ} (b : Bool) (t
         is-typical = ap₂ (λ (i j : ℕ). i + j) (h .is-typical) (et .is ∙ ap one-if (typical-is r k)) ∙ sym (typicals-more rs r);
         is-total = omega (arith, h .is-total, length-append rs (r ∷ []));
       }
-
--- the report by the tallies
-pub lines-tallied : (rs : List (List ℕ)) (w : List ℕ) (t : Tallies) → TalliesOf rs t
-    → count-lines (t .n0) (t .n11) (t .n21) (t .n22) (t .n31) ++ share-line (t .typical) (t .total) ++ sum-line w ≡ lines rs w
-unfolding lines
-lines-tallied rs w t h =
-    rw (h .is-0, h .is-11, h .is-21, h .is-22, h .is-31, h .is-typical, h .is-total) refl

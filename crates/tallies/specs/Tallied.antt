@@ -12,12 +12,12 @@ use Prim.Native.Nat.{ℕ, _≤_}
 use lib.ListN.{length}
 use Rattle.divisor.specs.Kind.{Kind, code}
 use Rattle.layout.specs.Layout.{Words}
-use Rattle.basis.specs.Divisor.{numbers}
+use Rattle.basis.specs.Divisor.{numbers-of}
 use Rattle.basis.specs.declared.Divisor.{Divisor}
 use Rattle.record.specs.Value.{bytes-of}
 use Rattle.calls.specs.Call.{one-if, tally}
 use Rattle.report.specs.Report.{typical, typicals}
-use Rattle.printing.specs.declared.Tallies.{Tallies}
+use Rattle.tallies.specs.declared.Tallies.{Tallies}
 
 pub record TalliesOf (rs : List (List ℕ)) (t : Tallies) : Type 0 where
   pub is-0 : t .n0 ≡ tally 0 rs
@@ -43,7 +43,7 @@ pub record OneIf (b : Bool) (r : ℕ) : Type 0 where
 pub record HasRecord (x : Divisor) (r : List ℕ) : Type 0 where
   pub kind : Kind
   pub is-kind : x .kind ≡ code kind
-  pub words : Words (numbers x)
+  pub words : Words (numbers-of x)
   pub bytes : bytes-of kind x ≡ r
 
 abbrev pub TypicalTest : Divisor → Bool → Type 0

@@ -1,0 +1,2 @@
+-- Tallies of one record more.
+pub mod More

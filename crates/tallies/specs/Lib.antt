@@ -1,0 +1,2 @@
+-- The tallies of a list of records.
+pub mod Tallied
