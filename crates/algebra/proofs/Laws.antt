@@ -5,6 +5,8 @@
 --   add-left-comm, mul-left-comm, swap-add  rearrangements
 --   cancel-left                             a ⊕ b ≡ a ⊕ c gives b ≡ c
 --   sub-zero→eq, eq→sub-zero                a ⊕ ⊖ b ≡ 0 is a ≡ b
+--   add-neg-cancel … neg-far                opposite terms side by side, and one term apart
+--   plus-comm … times-plus                  the laws of CommRing under names that simp takes
 --   sums               rule set for simp: sums and negatives into one order, opposite terms cancelled
 --   ring               rule set for simp: products multiplied out too
 use mathlib.Core.Path.{_≡_, sym, _∙_}

@@ -6,8 +6,9 @@
 -- There is no order of monomials and no sorting, and constants are pairs that are never brought to lowest terms.
 --   E                  expressions; the operators are those of Ops: E-ops
 --   H                  normal forms: z, con p n, cons h t
---   plus, minus, times the operations on normal forms
+--   plus, minus, times the operations on normal forms; plus-con, times-con: with a constant; times-tail: with a form without x0
 --   norm e             the normal form of e
+--   is-zero h          whether the normal form h is zero everywhere
 --   Same a b           the test, by computation, that norm a − norm b is zero everywhere; so a proof of it is tt
 use mathlib.Core.Bool.{Bool, true}
 use Prim.Native.Nat.{ℕ, zero, suc, _+_, _*_}

@@ -6,6 +6,10 @@
 --         solve R 2 (λ x y. formula E-ops x y) (λ x y. …) tt
 -- (c) solve-from R n hs l r tt proves the same under hypotheses. hs lists them, each `given m a b` for the equation a ≡ b and the factor m
 --     with which it enters: l − r is the sum of m·(a − b). The proofs of the equations follow the values, as (e₁, (e₂, tt)).
+--   ⊞ ⊠ ⊟ ^^           sums, products, negatives and powers of expressions
+--   Fn, apply          functions of n expressions, and their values at variables
+--   Each               a statement about every list of n values
+--   Hyp, Hold          hypotheses, and that they hold; combined hs r: r and the sum of the m·(a − b)
 -- A call that is refused with `⊥` (expected) and `Unit` (found) at the tt states something false.
 use mathlib.Core.Path.{_≡_, refl, _∙_}
 use mathlib.Core.List.{List, [], _∷_}

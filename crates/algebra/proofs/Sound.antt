@@ -1,5 +1,8 @@
 -- The ring solver is sound: what its test accepts holds in every commutative ring.
 --   number R n         n as an element of R
+--   number-add, number-mul     sums and products of such elements
+--   head, tail, nth    the entries of a list, with a value past its end
+--   raise R a n        the n-th power of a
 --   value R e ρ        the value of the expression e, its variables standing for the entries of the list ρ (zero past the end)
 --   at R h ρ           the value of the normal form h
 --   at-plus, at-minus, at-times, value-norm      the operations on normal forms mean what they say

@@ -24,7 +24,7 @@ use Rattle.vector.specs.Vector.{Vec, at, row, element, scalar}
 use Rattle.triple.specs.Triple.{Present, Full}
 use Rattle.span.specs.Contract.{Small}
 use Rattle.basis.specs.declared.Divisor.{Divisor}
-use Rattle.basis.specs.Divisor.{numbers, residues}
+use Rattle.basis.specs.Divisor.{numbers-of, residues}
 use Rattle.basis.specs.Contract.{coefficients, vectors, three-degrees, Tripled}
 use Rattle.basis.proofs.Row.{Monomials, row-vec, row-present, row-value}
 
@@ -106,7 +106,7 @@ rows-tripled {κ = κ} h =
       members-are = λ C. ap₂ _∷_ (h .value₀ C) (ap₂ (λ u v. u ∷ v ∷ []) (h .value₁ C) (h .value₂ C));
     }
 
-module _ {p : ℕ} (large : 1 < p) (r : Divisor) (below : (i : ℕ) → at (numbers r) i < p) where
+module _ {p : ℕ} (large : 1 < p) (r : Divisor) (below : (i : ℕ) → at (numbers-of r) i < p) where
   -- the vector's element, with the monomial and the numbers that are 0 put in
   value-of : (C : Curve (Z p)) {m a0 a3 a4 a7 : ℕ} {M b7 b4 b3 b0 : Coordinate C .Car} → Monomials p m a0 a3 a4 a7
       → mono C m ≡ M → scalar p C a7 ≡ b7 → scalar p C a4 ≡ b4 → scalar p C a3 ≡ b3 → scalar p C a0 ≡ b0

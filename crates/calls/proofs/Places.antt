@@ -1,5 +1,4 @@
 -- The places of a pool: what stands there, what is left without two of them, and that nothing is lost.
---   pick-yes, pick-no      a choice whose test is known
 --   same-place, other-place, long-enough, too-short    the tests of places and of a buffer's length
 --   tally-yes, tally-no    a call that counts, and one that does not
 --   without-both           a list is the entries at two different places and the rest, in another order
@@ -11,29 +10,23 @@ use Prim.Native.Nat.{ℕ, zero, suc, _+_, _<_, _≤_}
 use native.Mathlib.Omega.{arith}
 use lib.ListN.{length, getD}
 use lib.Dec.{T, eqb, leb, eqb→eq, eqb-refl, leb→le, le→leb}
+use Rattle.curve.specs.Sequence.{pick}
+use Rattle.curve.proofs.Term.{pick-true, pick-false}
 use Rattle.calls.specs.Call.{one-if}
-use Rattle.calls.specs.Pool.{pick, without-from, without}
+use Rattle.calls.specs.Pool.{without-from, without}
 
 module _ {A : Type 0} where
-  pub pick-yes : (b : Bool) (x y : A) → T b → pick b x y ≡ x
-  pick-yes true x y t = refl
-  pick-yes false x y t = absurd t
-
-  pub pick-no : (b : Bool) (x y : A) → ¬ T b → pick b x y ≡ y
-  pick-no true x y t = absurd (t tt)
-  pick-no false x y t = refl
-
   pub same-place : (m n : ℕ) (x y : A) → m ≡ n → pick (eqb m n) x y ≡ x
-  same-place m n x y e = pick-yes (eqb m n) x y (subst (λ (k : ℕ). T (eqb m k)) e (eqb-refl m))
+  same-place m n x y e = pick-true (eqb m n) x y (subst (λ (k : ℕ). T (eqb m k)) e (eqb-refl m))
 
   pub other-place : (m n : ℕ) (x y : A) → ¬ (m ≡ n) → pick (eqb m n) x y ≡ y
-  other-place m n x y h = pick-no (eqb m n) x y (λ t. h (eqb→eq m n t))
+  other-place m n x y h = pick-false (eqb m n) x y (λ t. h (eqb→eq m n t))
 
   pub long-enough : (m n : ℕ) (x y : A) → m ≤ n → pick (leb m n) x y ≡ x
-  long-enough m n x y h = pick-yes (leb m n) x y (le→leb m n h)
+  long-enough m n x y h = pick-true (leb m n) x y (le→leb m n h)
 
   pub too-short : (m n : ℕ) (x y : A) → n < m → pick (leb m n) x y ≡ y
-  too-short m n x y h = pick-no (leb m n) x y (λ t. omega (arith, leb→le m n t))
+  too-short m n x y h = pick-false (leb m n) x y (λ t. omega (arith, leb→le m n t))
 
   -- the order of the two tests does not matter
   tests-turn : (b d : Bool) (x y : A) → pick b x (pick d x y) ≡ pick d x (pick b x y)

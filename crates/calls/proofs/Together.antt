@@ -21,7 +21,8 @@ use Rattle.ideal.proofs.Same.{same-refl, same-sym, same-trans}
 use Rattle.ideal.proofs.Every.{Every}
 use Rattle.ideal.proofs.Class.{equivalent-same, equivalent-trans}
 use Rattle.ideal.proofs.Product.{product-same, product-assoc, productof-ideal, productof-swap, product-equivalent-left}
-use Rattle.calls.specs.Pool.{pick, entry, without-from}
+use Rattle.curve.specs.Sequence.{pick}
+use Rattle.calls.specs.Pool.{entry, without-from}
 
 module _ (Q : List ℕ → List ℕ → Type 0) where
   abbrev pub Together : List (List ℕ) → List (List ℕ) → Type 0

@@ -8,7 +8,7 @@ use native.Mathlib.Omega.{arith}
 use Rattle.ideal.specs.Ideal.{SameIdeal}
 use Rattle.ideal.proofs.Same.{same-sym}
 use Rattle.divisor.specs.Kind.{Kind, IdealOf}
-use Rattle.basis.specs.Divisor.{residues, Shaped, Based}
+use Rattle.basis.specs.Divisor.{residues, Shaped, BasisValue}
 use Rattle.basis.specs.declared.Divisor.{Divisor}
 use Rattle.record.specs.Curve.{modulus, equation, AcceptedCurve, accepted-limit}
 use Rattle.record.specs.Value.{bytes-of}
@@ -23,7 +23,7 @@ module _ (c : List ℕ) (A : AcceptedCurve c) where
   abbrev pub ValueIdeal : Kind → Divisor → Ring c .Car → Type 0
   ValueIdeal κ r = IdealOf (equation c) κ (residues (modulus c) r)
 
-  pub value-record : (κ : Kind) (r : Divisor) → Based (modulus c) (equation c) κ r → Record c (bytes-of κ r)
+  pub value-record : (κ : Kind) (r : Divisor) → BasisValue (modulus c) (equation c) κ r → Record c (bytes-of κ r)
   value-record κ r b = (bytes-bytes-of κ r, bytes-of-accepted (modulus c) (equation c) fits κ r b)
 
   pub value-ideal : (κ : Kind) (r : Divisor) → Shaped (modulus c) κ r → SameIdeal (Ring c) (ValueIdeal κ r) (Ideal c (bytes-of κ r))

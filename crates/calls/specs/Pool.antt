@@ -2,7 +2,7 @@
 -- of sum calls on it.
 --   PoolCall             a call: two places, the result buffer before and after, what was returned
 --   entry p i            what stands at place i
---   without i j p        p without the places i and j, the rest closed up (without-from: from a place on); pick b x y is x if b holds, else y
+--   without i j p        p without the places i and j, the rest closed up (without-from: from a place on)
 --   amount r             the length that a call returned
 --   written-by k         the bytes that the call wrote
 --   pool-after k p       the pool that the call leaves; it stays where the buffer is under 40 bytes
@@ -23,6 +23,7 @@ use lib.ListN.{length, getD, take}
 use lib.IntN.{ℤ, pos, negsuc}
 use lib.Dec.{eqb, leb}
 use Rattle.ideal.specs.Ideal.{ProductOf}
+use Rattle.curve.specs.Sequence.{pick}
 use Rattle.record.specs.Curve.{AcceptedCurve}
 use Rattle.record.specs.Listed.{joined}
 use Rattle.calls.specs.Answer.{minus, Gives}
@@ -35,10 +36,6 @@ pub record PoolCall : Type 0 where
   pub before : List ℕ
   pub returned : ℤ
   pub after : List ℕ
-
-abbrev pub pick : {A : Type 0} → Bool → A → A → A
-pick true a b = a
-pick false a b = b
 
 abbrev pub entry : List (List ℕ) → ℕ → List ℕ
 entry p i = getD p i []

@@ -3,7 +3,7 @@
 --   AllBelow p ns          every number of ns is below p
 --   Word s i n             n is the four-byte number at place i of s; 0 if it is not whole
 --   ValueOf s r            r has the kind and the numbers of s, 0 for a number that s has not
---   coefficients e, coefficient-of e i     the nine coefficients of an equation, and the i-th of them
+--   equation-numbers e, coefficient-of e i     the nine coefficients of an equation, and the i-th of them
 --   equation-value s       the equation by value of a curve's bytes
 use mathlib.Core.Path.{_≡_}
 use mathlib.Core.List.{List, [], _∷_}
@@ -11,7 +11,7 @@ use Prim.Native.Nat.{ℕ, _+_, _*_, _<_, _≤_}
 use lib.ListN.{length, getD}
 use Rattle.layout.specs.Layout.{number2, number4}
 use Rattle.equation.specs.declared.Equation.{Equation}
-use Rattle.basis.specs.Divisor.{numbers}
+use Rattle.basis.specs.Divisor.{numbers-of}
 use Rattle.basis.specs.declared.Divisor.{Divisor}
 use Rattle.record.specs.Cause.{Stage, FirstCause, Passes}
 use Rattle.record.specs.Curve.{modulus, coefficient-number}
@@ -30,13 +30,13 @@ pub record Word (s : List ℕ) (i n : ℕ) : Type 0 where
 
 pub record ValueOf (s : List ℕ) (r : Divisor) : Type 0 where
   pub kind : r .kind ≡ number2 s 2
-  pub number : (i : ℕ) → i < 9 → Word s (4 + 4 * i) (getD (numbers r) i 0)
+  pub number : (i : ℕ) → i < 9 → Word s (4 + 4 * i) (getD (numbers-of r) i 0)
 
-abbrev pub coefficients : Equation → List ℕ
-coefficients e = e .c0 ∷ e .c1 ∷ e .c2 ∷ e .c3 ∷ e .c4 ∷ e .c5 ∷ e .c6 ∷ e .c7 ∷ e .c8 ∷ []
+abbrev pub equation-numbers : Equation → List ℕ
+equation-numbers e = e .c0 ∷ e .c1 ∷ e .c2 ∷ e .c3 ∷ e .c4 ∷ e .c5 ∷ e .c6 ∷ e .c7 ∷ e .c8 ∷ []
 
 abbrev pub coefficient-of : Equation → ℕ → ℕ
-coefficient-of e i = getD (coefficients e) i 0
+coefficient-of e i = getD (equation-numbers e) i 0
 
 abbrev pub equation-value : List ℕ → Equation
 equation-value s =

@@ -5,7 +5,7 @@ ghost use mathlib.Core.Path.{_≡_};
 ghost use mathlib.Core.List.{[], _∷_};
 ghost use Prim.Native.Nat.{ℕ, _<_, _≤_};
 ghost use Rattle.algebra.specs.Answers.{Answers};
-ghost use Rattle.basis.specs.Divisor.{numbers};
+ghost use Rattle.basis.specs.Divisor.{numbers-of};
 ghost use Rattle.record.specs.Cause.{Sized};
 ghost use Rattle.record.specs.Curve.{curve-form};
 ghost use Rattle.record.specs.Divisor.{divisor-form};
@@ -141,7 +141,7 @@ pub fn value(s: &[u8]) -> Divisor
 
 // Are all numbers of a divisor below p?
 pub fn all_below(p: u32, r: Divisor) -> bool
-    ensures { λ b. ⌜ Answers (AllBelow p (numbers r)) b ⌝ }
+    ensures { λ b. ⌜ Answers (AllBelow p (numbers-of r)) b ⌝ }
 {
     if !three_below(p, r.n0, r.n1, r.n2) {
         return false;

@@ -17,7 +17,7 @@ use Rattle.layout.specs.Layout.{number2}
 use Rattle.vector.specs.Vector.{at as entry}
 use Rattle.vector.proofs.Loop.{zeros-at}
 use Rattle.ground.specs.declared.Ground.{Ground}
-use Rattle.basis.specs.Divisor.{numbers, residues}
+use Rattle.basis.specs.Divisor.{numbers-of, residues}
 use Rattle.basis.specs.declared.Divisor.{Divisor}
 use Rattle.group.specs.Contract.{ZeroClass, SumAsked, SumOf}
 use Rattle.record.specs.Curve.{modulus, equation, AcceptedCurve, accepted-prime, setting-of}
@@ -45,10 +45,10 @@ zero-given : (c : List ℕ) → AcceptedCurve c → {z : Divisor} → ZeroClass 
 zero-given c A {z} h =
     record { accepted = zero-accepted c .1; kind = k0; based = record { shaped = record { kind = h .kind; below = below }; basis = basis }; bytes = zero-bytes z }
   where
-    zeros : (i : ℕ) → entry (numbers z) i ≡ 0
+    zeros : (i : ℕ) → entry (numbers-of z) i ≡ 0
     zeros i = ap (λ (v : List ℕ). entry v i) (h .none) ∙ zeros-at 9 i
 
-    below : (i : ℕ) → entry (numbers z) i < modulus c
+    below : (i : ℕ) → entry (numbers-of z) i < modulus c
     below i = subst (λ (v : ℕ). v < modulus c) (sym (zeros i)) (omega (arith, prime-large (modulus c) (accepted-prime c A)))
 
     basis : IsBasis (equation c) k0 (residues (modulus c) z)

@@ -1,5 +1,7 @@
 -- A list that is read record by record: what a loop over read_next keeps, for whatever X it finds of the records read.
 --   Walked g s at X        on every curve the bytes of s before `at` are accepted records, of which X holds
+--   More g x X Y           one record more, that of x, turns X into Y
+--   next-given             the next record is that of the divisor by value that was read
 --   walked-start, walked-more, walked-refused, walked-end      at the start; one record more; the next one is refused; at the end
 --   next-bounds            a record has four bytes at least, and lies inside the list
 --   part-from              the part of a list from a place on

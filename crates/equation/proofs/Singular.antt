@@ -3,6 +3,7 @@
 --   inserted-in            an ideal that holds g and the span of a triple holds the span after g's y-multiples are put in
 --   inserted-times         that span holds all multiples of g
 --   inserted-keeps         … and the span before
+--   start-asked            what putting in the first derivative's y-multiples asks
 --   test                   what nonsingular returns
 use mathlib.Core.Path.{_≡_, refl, sym, _∙_, ap, subst}
 use mathlib.Core.Bool.{Bool}
@@ -114,7 +115,7 @@ module _ {p : ℕ} (S : Setting p) where
     pub inserted-keeps : (h : Car) → Spanned S t h → Spanned S t′ h
     inserted-keeps h m = a .same S h .1 (span-within P (elements S t) all (every-right (Span P all) (elements S ys) (elements S t) (span-each P all)) h m)
 
-module _ (e : Equation) {f : List ℕ} (asked : TestAsked e f) where
+module _ (e : Equation) {y3 : List ℕ} (asked : TestAsked e y3) where
   abbrev S : Setting (e .p)
   S = record { prime = asked .prime; curve = curve-of e; nonzero = asked .nonzero }
 
@@ -136,11 +137,11 @@ module _ (e : Equation) {f : List ℕ} (asked : TestAsked e f) where
   positive : 0 < e .p
   positive = omega (arith, asked .prime .two-le)
 
-  pub start-asked : {ys : List (List ℕ)} {v : List ℕ} → YMultiples (e .p) f v 9 ys → AllAsked (e .p) no-rows no-degrees ys 9
+  pub start-asked : {ys : List (List ℕ)} {v : List ℕ} → YMultiples (e .p) y3 v 9 ys → AllAsked (e .p) no-rows no-degrees ys 9
   start-asked y = record { prime = asked .prime; triple = empty-triple positive; rows = y .rows; room = omega arith }
 
   module _ {v w : List ℕ} {ys zs t : List (List ℕ)} {d : List ℕ} {t′ : List (List ℕ)} {d′ : List ℕ} (dy : DerivativeY e v)
-      (my : YMultiples (e .p) f v 9 ys) (ay : AllInserted (e .p) no-rows no-degrees ys t d) (dx : DerivativeX e w) (mx : YMultiples (e .p) f w 10 zs)
+      (my : YMultiples (e .p) y3 v 9 ys) (ay : AllInserted (e .p) no-rows no-degrees ys t d) (dx : DerivativeX e w) (mx : YMultiples (e .p) y3 w 10 zs)
       (ax : AllInserted (e .p) t d zs t′ d′) where
     rows-y : RowsOf (e .p) (curve-of e) ys (derivative-y (curve-of e))
     rows-y = subst (RowsOf (e .p) (curve-of e) ys) (dy .value) (my .value (curve-of e) (asked .is-cube .cube))

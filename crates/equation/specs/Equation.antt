@@ -64,8 +64,8 @@ pub record DerivativeY (e : Equation) (r : List ℕ) : Type 0 where
   pub value : element (e .p) (curve-of e) r ≡ derivative-y (curve-of e)
 
 -- the coefficient of x⁴ is not 0
-pub record TestAsked (e : Equation) (f : List ℕ) : Type 0 where
+pub record TestAsked (e : Equation) (y3 : List ℕ) : Type 0 where
   pub prime : Prime (e .p)
   pub coefficients : Coefficients e
   pub nonzero : ¬ (curve-of e .a0 ≡ Z (e .p) .zero)
-  pub is-cube : IsCube e f
+  pub is-cube : IsCube e y3

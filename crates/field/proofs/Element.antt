@@ -16,7 +16,7 @@ use native.Mathlib.Decide.{Fin-discrete}
 use native.Mathlib.Omega.{arith}
 use Rattle.algebra.specs.Ring.{CommRing}
 use Rattle.algebra.proofs.Modulo.{mod-mul-mod, mul-mod-mod, fin-path, fin-val}
-use Rattle.field.specs.Residue.{Zmod, modulus, modulus-pos, Z, el, num}
+use Rattle.field.specs.Residue.{Zmod, order, order-pos, Z, el, num}
 use Rattle.algebra.specs.Modulo.{fin}
 
 -- a + b = 0 and c + b = 0 make a = c, in every ring
@@ -31,11 +31,11 @@ cancel R a b c e f =
 
 pub el-add : (p a b : ℕ) → el p (a + b) ≡ Z p .add (el p a) (el p b)
 unfolding Z Zmod el fin
-el-add p a b = fin-path (modulus p) (modulus-pos p) (a + b) _ (add-mod a b (modulus p))
+el-add p a b = fin-path (order p) (order-pos p) (a + b) _ (add-mod a b (order p))
 
 pub el-mul : (p a b : ℕ) → el p (a * b) ≡ Z p .mul (el p a) (el p b)
 unfolding Z Zmod el fin
-el-mul p a b = fin-path (modulus p) (modulus-pos p) (a * b) _ (sym (mod-mul-mod (modulus p) a b) ∙ sym (mul-mod-mod (modulus p) (a % modulus p) b))
+el-mul p a b = fin-path (order p) (order-pos p) (a * b) _ (sym (mod-mul-mod (order p) a b) ∙ sym (mul-mod-mod (order p) (a % order p) b))
 
 pub el-zero : (p : ℕ) → el p 0 ≡ Z p .zero
 unfolding Z Zmod el
@@ -48,7 +48,7 @@ el-one p = refl
 pub el-mod : (p n : ℕ) → el p (n % p) ≡ el p n
 unfolding el
 el-mod zero n = ap (el 0) (mod-zero n)
-el-mod (suc k) n = fin-path (suc k) (modulus-pos (suc k)) _ n (mod-mod n (suc k))
+el-mod (suc k) n = fin-path (suc k) (order-pos (suc k)) _ n (mod-mod n (suc k))
 
 pub el-same : (p a b : ℕ) → a % p ≡ b % p → el p a ≡ el p b
 el-same p a b e = sym (el-mod p a) ∙ ap (el p) e ∙ el-mod p b
@@ -56,7 +56,7 @@ el-same p a b e = sym (el-mod p a) ∙ ap (el p) e ∙ el-mod p b
 pub el-self : (p : ℕ) → el p p ≡ Z p .zero
 el-self p = el-same p p 0 (mod-self p ∙ sym (zero-mod p)) ∙ el-zero p
 
-num-lt-modulus : (p : ℕ) (x : Z p .Car) → num p x < modulus p
+num-lt-modulus : (p : ℕ) (x : Z p .Car) → num p x < order p
 unfolding Z Zmod num
 num-lt-modulus p x = x .1
 
@@ -65,9 +65,9 @@ num-lt p x h = omega (arith, num-lt-modulus p x)
 
 pub el-num : (p : ℕ) (x : Z p .Car) → el p (num p x) ≡ x
 unfolding Z Zmod el num
-el-num p x = fin-val (modulus p) (modulus-pos p) x
+el-num p x = fin-val (order p) (order-pos p) x
 
-num-el-modulus : (p n : ℕ) → num p (el p n) ≡ n % modulus p
+num-el-modulus : (p n : ℕ) → num p (el p n) ≡ n % order p
 unfolding Z Zmod el num fin
 num-el-modulus p n = refl
 
@@ -105,7 +105,7 @@ el-sub p a b h =
 
 pub Z-discrete : (p : ℕ) → Discrete (Z p .Car)
 unfolding Z Zmod
-Z-discrete p = Fin-discrete (modulus p)
+Z-discrete p = Fin-discrete (order p)
 
 pub el-rest : (p a b c : ℕ) → el p (a * b + c) ≡ Z p .zero → Z p .mul (el p a) (Z p .neg (el p b)) ≡ el p c
 el-rest p a b c e =

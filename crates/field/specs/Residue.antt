@@ -1,7 +1,7 @@
 -- The ring of residues modulo p, for every p, and the residue of a number.
 --   Zmod m pos         the ring of the numbers below m, with sums and products modulo m, for 0 < m
---   modulus p          p where p is not zero, and 1 otherwise; it is positive (modulus-pos)
---   Z p                Zmod (modulus p)
+--   order p            p where p is not zero, and 1 otherwise; it is positive (order-pos)
+--   Z p                Zmod (order p)
 --   el p n             the residue of n modulo p
 --   num p x            the number below p that x is the residue of
 -- Z and el stay shut: reason by the laws of the ring and those of proofs/Element.
@@ -34,19 +34,19 @@ module _ (m : ℕ) (pos : 0 < m) where
         mul-add = times-plus m pos;
       }
 
-abbrev pub modulus : ℕ → ℕ
-modulus p = suc (pred p)
+abbrev pub order : ℕ → ℕ
+order p = suc (pred p)
 
-pub modulus-pos : (p : ℕ) → 0 < modulus p
-modulus-pos p = omega arith
+pub order-pos : (p : ℕ) → 0 < order p
+order-pos p = omega arith
 
 -- Z p is the ring of the numbers below p; so that p = 0 needs no proof against it, Z 0 is the ring of one element.
 unfoldable pub Z : ℕ → CommRing
-Z p = Zmod (modulus p) (modulus-pos p)
+Z p = Zmod (order p) (order-pos p)
 
 unfoldable pub el : (p n : ℕ) → Z p .Car
 unfolding Z Zmod
-el p n = fin (modulus p) (modulus-pos p) n
+el p n = fin (order p) (order-pos p) n
 
 unfoldable pub num : (p : ℕ) → Z p .Car → ℕ
 unfolding Z Zmod

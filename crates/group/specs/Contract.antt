@@ -18,12 +18,12 @@ use Rattle.divisor.specs.Kind.{Kind, IdealOf}
 use Rattle.triple.specs.Setting.{Setting, ring, poles-of}
 use Rattle.ground.specs.declared.Ground.{Ground}
 use Rattle.ground.specs.Ground.{Grounded}
-use Rattle.basis.specs.Divisor.{numbers, residues, Based}
+use Rattle.basis.specs.Divisor.{numbers-of, residues, BasisValue}
 use Rattle.basis.specs.declared.Divisor.{Divisor}
 
 pub record IsDivisor {p : ℕ} (S : Setting p) (r : Divisor) : Type 0 where
   pub kind : Kind
-  pub based : Based p (S .curve) kind r
+  pub based : BasisValue p (S .curve) kind r
 
 abbrev pub ideal : {p : ℕ} (S : Setting p) (r : Divisor) → IsDivisor S r → ring S .Car → Type 0
 ideal {p} S r D = IdealOf (S .curve) (D .kind) (residues p r)
@@ -67,4 +67,4 @@ MultipleOf g a m r = (A : NegativeAsked g a) → IsCopies (A .grounded .ready .s
 
 pub record ZeroClass (r : Divisor) : Type 0 where
   pub kind : r .kind ≡ 0
-  pub none : numbers r ≡ replicate 9 0
+  pub none : numbers-of r ≡ replicate 9 0

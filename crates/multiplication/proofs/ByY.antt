@@ -1,6 +1,6 @@
 -- The loop of times_y: the places of the classes 0 and 1 move by 4, and then each place n of class 2 adds its multiple of y³. When it is at n
 -- the result is y times the part of v without its places of class 2 from n on.
---   Reached n          the places of the classes 0 and 1, and those below n
+--   Reached n          the places of the classes 0 and 1, and those below n; reached: it is decided
 --   shifted-vec shifted-top        what shift_y gives is a vector
 --   shifted-value      it is y times the part of v of the classes 0 and 1
 --   YPart              the loop's invariant
@@ -113,15 +113,15 @@ module _ {v r : List ℕ} {top : ℕ} (s : Shifted v top r) where
           ∙ sym (at-y-2-straight C g flat i ∙ low i 1 (omega arith) (omega arith))
       go i (suc (suc (suc j))) l = absurd (omega arith)
 
-pub record YPart (p : ℕ) (f v : List ℕ) (top n : ℕ) (r : List ℕ) : Type 0 where
+pub record YPart (p : ℕ) (y3 v : List ℕ) (top n : ℕ) (r : List ℕ) : Type 0 where
   pub vec : Vec p r
   pub top-out : Top r (top + 4)
   pub class : n % 3 ≡ 2
   pub start : 8 ≤ n
-  pub value : (C : Curve (Z p)) → Cube p C f → element p C r ≡ Coordinate C .mul (y C) (portion p C v (Reached n) (reached n))
+  pub value : (C : Curve (Z p)) → Cube p C y3 → element p C r ≡ Coordinate C .mul (y C) (portion p C v (Reached n) (reached n))
 
-pub y-start : {p top : ℕ} {f v r : List ℕ} → TimesYAsked p f v top → Shifted v top r → YPart p f v top 8 r
-y-start {p} {top} {f} {v} {r} h s =
+pub y-start : {p top : ℕ} {y3 v r : List ℕ} → TimesYAsked p y3 v top → Shifted v top r → YPart p y3 v top 8 r
+y-start {p} {top} {y3} {v} {r} h s =
     record {
       vec = shifted-vec s p (h .v-vec) (h .v-top);
       top-out = shifted-top s;
@@ -138,18 +138,18 @@ y-two p C = refl
 ordered : (R : CommRing) (y u s x : R .Car) → R .add (R .mul y u) (R .mul (R .mul s x) (R .mul y (R .mul y y))) ≡ R .mul y (R .add u (R .mul s (R .mul x (R .mul y (R .mul y (R .one))))))
 ordered R = solve R 4 (λ y u s x. y ⊠ u ⊞ s ⊠ x ⊠ (y ⊠ (y ⊠ y))) (λ y u s x. y ⊠ (u ⊞ s ⊠ (x ⊠ (y ⊠ (y ⊠ unit))))) tt
 
-module _ {p top n : ℕ} {f v r : List ℕ} (h : TimesYAsked p f v top) (t : YPart p f v top n r) (l : n < top) where
-  pub y-asked : AxpyAsked p r (at v n) f (n - 8) 13
+module _ {p top n : ℕ} {y3 v r : List ℕ} (h : TimesYAsked p y3 v top) (t : YPart p y3 v top n r) (l : n < top) where
+  pub y-asked : AxpyAsked p r (at v n) y3 (n - 8) 13
   y-asked =
       record {
         r-vec = t .vec;
-        b-vec = h .f-vec;
+        b-vec = h .y3-vec;
         c-below = h .v-vec .below n;
         class = omega (arith, t .class, t .start);
         room = omega (arith, h .room);
       }
 
-  pub y-more : {r′ : List ℕ} → Added p r (at v n) f (n - 8) 13 r′ → YPart p f v top (n + 3) r′
+  pub y-more : {r′ : List ℕ} → Added p r (at v n) y3 (n - 8) 13 r′ → YPart p y3 v top (n + 3) r′
   y-more {r′} a =
       record {
         vec = a .vec;
@@ -181,9 +181,9 @@ module _ {p top n : ℕ} {f v r : List ℕ} (h : TimesYAsked p f v top) (t : YPa
       none (inl c) = omega (arith, here, t .class)
       none (inr c) = omega (arith, here)
 
-      value : (C : Curve (Z p)) → Cube p C f → element p C r′ ≡ Coordinate C .mul (y C) (portion p C v (Reached (n + 3)) (reached (n + 3)))
+      value : (C : Curve (Z p)) → Cube p C y3 → element p C r′ ≡ Coordinate C .mul (y C) (portion p C v (Reached (n + 3)) (reached (n + 3)))
       value C o =
-          added-value p C (t .vec) (h .f-vec) (omega (arith, t .class, t .start)) a (h .f-top)
+          added-value p C (t .vec) (h .y3-vec) (omega (arith, t .class, t .start)) a (h .y3-top)
           ∙ ap₂ (λ u w. Coordinate C .add u (Coordinate C .mul (Coordinate C .mul (scalar p C (at v n)) (x-to p C i)) w)) (t .value C o) (o .is)
           ∙ ordered (Coordinate C) (y C) _ (scalar p C (at v n)) (x-to p C i)
           ∙ ap (Coordinate C .mul (y C)) (sym step)
@@ -195,8 +195,8 @@ module _ {p top n : ℕ} {f v r : List ℕ} (h : TimesYAsked p f v top) (t : YPa
               portion-step p C v (Reached n) (reached n) (Reached (n + 3)) (reached (n + 3)) i 2 (omega arith) none (inr (omega (arith, here))) more less
               ∙ ap₂ (λ m w. Coordinate C .add (portion p C v (Reached n) (reached n)) (Coordinate C .mul (scalar p C (at v m)) (Coordinate C .mul (x-to p C i) w))) here (y-two p C)
 
-pub y-end : {p top n : ℕ} {f v r : List ℕ} → TimesYAsked p f v top → YPart p f v top n r → top ≤ n → TimesY p f v top r
-y-end {p} {top} {n} {f} {v} {r} h t q =
+pub y-end : {p top n : ℕ} {y3 v r : List ℕ} → TimesYAsked p y3 v top → YPart p y3 v top n r → top ≤ n → TimesY p y3 v top r
+y-end {p} {top} {n} {y3} {v} {r} h t q =
     record {
       vec = t .vec;
       top-out = t .top-out;

@@ -22,7 +22,7 @@ twice R = solve R 2 (λ y g. y ⊠ (y ⊠ g)) (λ y g. y ⊠ (y ⊠ unit) ⊠ g)
 none : (R : CommRing) (g : R .Car) → g ≡ R .mul (R .one) g
 none R = solve R 1 (λ g. g) (λ g. unit ⊠ g) tt
 
-module _ {p top : ℕ} {f v a b : List ℕ} (h : YMultiplesAsked p f v top) (s : TimesY p f v top a) (t : TimesY p f a (top + 4) b) where
+module _ {p top : ℕ} {y3 v a b : List ℕ} (h : YMultiplesAsked p y3 v top) (s : TimesY p y3 v top a) (t : TimesY p y3 a (top + 4) b) where
   vecs : (j : ℕ) → j < 3 → Vec p (row (v ∷ a ∷ b ∷ []) j)
   vecs zero l = h .v-vec
   vecs (suc zero) l = s .vec
@@ -35,7 +35,7 @@ module _ {p top : ℕ} {f v a b : List ℕ} (h : YMultiplesAsked p f v top) (s :
   tops (suc (suc zero)) l = λ n k. t .top-out n (omega arith)
   tops (suc (suc (suc j))) l = absurd (omega arith)
 
-  values : (C : Curve (Z p)) → Cube p C f → (j : ℕ) → j < 3 → element p C (row (v ∷ a ∷ b ∷ []) j) ≡ Coordinate C .mul (y-to p C j) (element p C v)
+  values : (C : Curve (Z p)) → Cube p C y3 → (j : ℕ) → j < 3 → element p C (row (v ∷ a ∷ b ∷ []) j) ≡ Coordinate C .mul (y-to p C j) (element p C v)
   unfolding power
   values C o zero l = none (Coordinate C) (element p C v)
   values C o (suc zero) l = s .value C o ∙ once (Coordinate C) (y C) (element p C v)
@@ -45,5 +45,5 @@ module _ {p top : ℕ} {f v a b : List ℕ} (h : YMultiplesAsked p f v top) (s :
       ∙ twice (Coordinate C) (y C) (element p C v)
   values C o (suc (suc (suc j))) l = absurd (omega arith)
 
-  pub y-rows : YMultiples p f v top (v ∷ a ∷ b ∷ [])
+  pub y-rows : YMultiples p y3 v top (v ∷ a ∷ b ∷ [])
   y-rows = record { rows = record { len = refl; vec = vecs; tops = tops }; value = λ C o. record { is = values C o } }

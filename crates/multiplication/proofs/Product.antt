@@ -1,7 +1,8 @@
 -- The loop of times: after n turns the result is g times the part of b below n.
---   First n            the places below n
+--   First n            the places below n; first: it is decided
 --   TimesPart          the loop's invariant
 --   part-start part-more part-skip part-end       its start, its two ways of a turn and its end
+--   part-as            the invariant for an equal result
 --   turn-asked turn-more turn-skip     what a turn asks, and its two ways, by the table's entry at n
 use mathlib.Core.Path.{_≡_, sym, _∙_, ap, ap₂, subst}
 use mathlib.Core.List.{List}

@@ -1,5 +1,5 @@
 -- What the functions on products of vectors require and ensure.
---   Cube p C f                f is the vector of y³
+--   Cube p C y3               y3 is the vector of y³
 --   TimesYAsked, TimesY       times_y: y·v
 --   Rows p ys top             three vectors, the j-th below top + 4·j
 --   RowsOf p C ys g           … which stand for g, y·g and y²·g
@@ -15,25 +15,25 @@ use Rattle.field.specs.Residue.{Z}
 use Rattle.curve.specs.Curve.{Curve, Coordinate, y}
 use Rattle.vector.specs.Vector.{Vec, Top, at, row, element, y-to, width}
 
--- f is the vector of y³
-pub record Cube (p : ℕ) (C : Curve (Z p)) (f : List ℕ) : Type 0 where
-  pub is : element p C f ≡ Coordinate C .mul (y C) (Coordinate C .mul (y C) (y C))
+-- y3 is the vector of y³
+pub record Cube (p : ℕ) (C : Curve (Z p)) (y3 : List ℕ) : Type 0 where
+  pub is : element p C y3 ≡ Coordinate C .mul (y C) (Coordinate C .mul (y C) (y C))
 
-pub record TimesYAsked (p : ℕ) (f v : List ℕ) (top : ℕ) : Type 0 where
-  pub f-vec : Vec p f
-  pub f-top : Top f 13
+pub record TimesYAsked (p : ℕ) (y3 v : List ℕ) (top : ℕ) : Type 0 where
+  pub y3-vec : Vec p y3
+  pub y3-top : Top y3 13
   pub v-vec : Vec p v
   pub v-top : Top v top
   pub room : top ≤ 22
 
-pub record TimesY (p : ℕ) (f v : List ℕ) (top : ℕ) (r : List ℕ) : Type 0 where
+pub record TimesY (p : ℕ) (y3 v : List ℕ) (top : ℕ) (r : List ℕ) : Type 0 where
   pub vec : Vec p r
   pub top-out : Top r (top + 4)
-  pub value : (C : Curve (Z p)) → Cube p C f → element p C r ≡ Coordinate C .mul (y C) (element p C v)
+  pub value : (C : Curve (Z p)) → Cube p C y3 → element p C r ≡ Coordinate C .mul (y C) (element p C v)
 
-pub record YMultiplesAsked (p : ℕ) (f v : List ℕ) (top : ℕ) : Type 0 where
-  pub f-vec : Vec p f
-  pub f-top : Top f 13
+pub record YMultiplesAsked (p : ℕ) (y3 v : List ℕ) (top : ℕ) : Type 0 where
+  pub y3-vec : Vec p y3
+  pub y3-top : Top y3 13
   pub v-vec : Vec p v
   pub v-top : Top v top
   pub room : top ≤ 18
@@ -48,9 +48,9 @@ pub record Rows (p : ℕ) (ys : List (List ℕ)) (top : ℕ) : Type 0 where
 pub record RowsOf (p : ℕ) (C : Curve (Z p)) (ys : List (List ℕ)) (g : Coordinate C .Car) : Type 0 where
   pub is : (j : ℕ) → j < 3 → element p C (row ys j) ≡ Coordinate C .mul (y-to p C j) g
 
-pub record YMultiples (p : ℕ) (f v : List ℕ) (top : ℕ) (ys : List (List ℕ)) : Type 0 where
+pub record YMultiples (p : ℕ) (y3 v : List ℕ) (top : ℕ) (ys : List (List ℕ)) : Type 0 where
   pub rows : Rows p ys top
-  pub value : (C : Curve (Z p)) → Cube p C f → RowsOf p C ys (element p C v)
+  pub value : (C : Curve (Z p)) → Cube p C y3 → RowsOf p C ys (element p C v)
 
 pub record TimesAsked (p : ℕ) (b : List ℕ) (e : ℕ) (ys : List (List ℕ)) (top : ℕ) : Type 0 where
   pub b-vec : Vec p b

@@ -1,6 +1,7 @@
 -- The slots of a pool: copying bytes, a record that comes in at the end, and closing up.
 --   copied-none, copied-more, copied-end    the loop that copies: no byte yet, one byte more, all
 --   entry-before, entry-last    the entries of a list with one record more
+--   length-more            the length of such a list
 --   held-more              a record that is written behind the others is held with them
 --   without-more           what is left of one record more
 --   Closing i j p m w s    the first m records of p are passed, and what is left of them stands in the first w slots
@@ -16,7 +17,8 @@ use lib.ListN.{length, getD, take, set, length-set, length-append, List·getD-ap
 use lib.Seq.{getD-set-same, getD-set-other, getD-append-seam, take-suc, take-all, length-take-le}
 use lib.Dec.{eqb}
 use Rattle.calls.specs.Call.{room}
-use Rattle.calls.specs.Pool.{entry, pick, without, without-from}
+use Rattle.curve.specs.Sequence.{pick}
+use Rattle.calls.specs.Pool.{entry, without, without-from}
 use Rattle.calls.proofs.Places.{same-place, other-place}
 use Rattle.pool.specs.Held.{slot, Held, Copied, Passed, first, second, other}
 

@@ -22,7 +22,8 @@ use Rattle.record.specs.Curve.{modulus, equation, AcceptedCurve}
 use Rattle.record.specs.Listed.{Listed, list-limit}
 use Rattle.calls.specs.Class.{Record}
 use Rattle.calls.specs.Call.{room}
-use Rattle.calls.specs.Pool.{PoolCall, entry, pick, pool-after, pool-of, IsCall, Made, PoolEnd}
+use Rattle.curve.specs.Sequence.{pick}
+use Rattle.calls.specs.Pool.{PoolCall, entry, pool-after, pool-of, IsCall, Made, PoolEnd}
 use Rattle.pool.specs.Held.{slot, Held}
 
 pub record InSlot (s : List ℕ) (m : ℕ) : Type 0 where

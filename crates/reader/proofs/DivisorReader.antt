@@ -20,7 +20,7 @@ use Rattle.divisor.specs.Kind.{Kind, count, size, IsBasis}
 use Rattle.layout.specs.Layout.{Bytes, number2, number4}
 use Rattle.ground.specs.declared.Ground.{Ground}
 use Rattle.ground.specs.Ground.{Grounded}
-use Rattle.basis.specs.Divisor.{numbers, residues, Shaped}
+use Rattle.basis.specs.Divisor.{numbers-of, residues, Shaped}
 use Rattle.basis.specs.declared.Divisor.{Divisor}
 use Rattle.basis.specs.Contract.{BasisAsked, BasisTest}
 use Rattle.record.specs.Cause.{FirstCause, Passes}
@@ -48,41 +48,41 @@ module _ (p : ℕ) (prime : Prime p) (s : List ℕ) (r : Divisor) (v : ValueOf s
   long : length s ≡ size κ
   long = form .1 .1 .0 κ is-kind
 
-  number-is : (i : ℕ) → i < count κ → getD (numbers r) i 0 ≡ number4 s (4 + 4 * i)
+  number-is : (i : ℕ) → i < count κ → getD (numbers-of r) i 0 ≡ number4 s (4 + 4 * i)
   number-is i h = v .number i (omega (arith, count-small κ)) .is (omega (arith, long))
 
   -- past the count the value is 0
-  number-past : (i : ℕ) → count κ ≤ i → getD (numbers r) i 0 ≡ 0
+  number-past : (i : ℕ) → count κ ≤ i → getD (numbers-of r) i 0 ≡ 0
   number-past i h = go (decLt i 9)
     where
-      go : Dec (i < 9) → getD (numbers r) i 0 ≡ 0
+      go : Dec (i < 9) → getD (numbers-of r) i 0 ≡ 0
       go (yes l) = v .number i l .past (omega (arith, long))
-      go (no l) = List·getD-eq-default (numbers r) 0 {n = i} (omega arith)
+      go (no l) = List·getD-eq-default (numbers-of r) 0 {n = i} (omega arith)
 
-  all-below : ((i : ℕ) → i < count κ → number4 s (4 + 4 * i) < p) → (i : ℕ) → getD (numbers r) i 0 < p
+  all-below : ((i : ℕ) → i < count κ → number4 s (4 + 4 * i) < p) → (i : ℕ) → getD (numbers-of r) i 0 < p
   all-below h i = go (decLt i (count κ))
     where
-      go : Dec (i < count κ) → getD (numbers r) i 0 < p
+      go : Dec (i < count κ) → getD (numbers-of r) i 0 < p
       go (yes l) = omega (arith, number-is i l, h i l)
       go (no l) = omega (arith, number-past i (omega arith), prime .two-le)
 
-  bounds : AllBelow p (numbers r) → (i : ℕ) → i < count κ → number4 s (4 + 4 * i) < p
-  bounds h i l = omega (arith, number-is i l, below-at p (numbers r) h i (omega (arith, count-small κ)))
+  bounds : AllBelow p (numbers-of r) → (i : ℕ) → i < count κ → number4 s (4 + 4 * i) < p
+  bounds h i l = omega (arith, number-is i l, below-at p (numbers-of r) h i (omega (arith, count-small κ)))
 
-  pub value-shaped : AllBelow p (numbers r) → Shaped p κ r
+  pub value-shaped : AllBelow p (numbers-of r) → Shaped p κ r
   value-shaped h = record { kind = v .kind ∙ is-kind; below = all-below (bounds h) }
 
-  pub value-holds : AllBelow p (numbers r) → Holds p κ s r
+  pub value-holds : AllBelow p (numbers-of r) → Holds p κ s r
   value-holds h = record { shaped = value-shaped h; number = number-is }
 
   module _ (C : Curve (Z p)) where
-    pub refused-8 : ¬ AllBelow p (numbers r) → FirstCause (divisor-stages p C s) 8
-    refused-8 n = inr (form .0, inr (form .1 .0, inr (form .1 .1 .0, inl (λ h. n (at-below p (numbers r) (λ i _. all-below (h κ is-kind) i)), refl))))
+    pub refused-8 : ¬ AllBelow p (numbers-of r) → FirstCause (divisor-stages p C s) 8
+    refused-8 n = inr (form .0, inr (form .1 .0, inr (form .1 .1 .0, inl (λ h. n (at-below p (numbers-of r) (λ i _. all-below (h κ is-kind) i)), refl))))
 
-    of-bounds : AllBelow p (numbers r) → (κ′ : Kind) → of-kind s κ′ → (i : ℕ) → i < count κ′ → number4 s (4 + 4 * i) < p
+    of-bounds : AllBelow p (numbers-of r) → (κ′ : Kind) → of-kind s κ′ → (i : ℕ) → i < count κ′ → number4 s (4 + 4 * i) < p
     of-bounds h κ′ e = subst (λ (q : Kind). (i : ℕ) → i < count q → number4 s (4 + 4 * i) < p) (same-kind s κ κ′ is-kind e) (bounds h)
 
-    pub refused-9 : AllBelow p (numbers r) → ¬ IsBasis C κ (residues p r) → FirstCause (divisor-stages p C s) 9
+    pub refused-9 : AllBelow p (numbers-of r) → ¬ IsBasis C κ (residues p r) → FirstCause (divisor-stages p C s) 9
     refused-9 h n =
         inr (
           form .0,
@@ -95,7 +95,7 @@ module _ (p : ℕ) (prime : Prime p) (s : List ℕ) (r : Divisor) (v : ValueOf s
           ),
         )
 
-    pub given : AllBelow p (numbers r) → Bytes s → IsBasis C κ (residues p r) → DivisorGiven p C s r
+    pub given : AllBelow p (numbers-of r) → Bytes s → IsBasis C κ (residues p r) → DivisorGiven p C s r
     given h y b =
         record {
           accepted = reads-accepted p C κ s reads;
@@ -114,7 +114,7 @@ module _ (p : ℕ) (prime : Prime p) (s : List ℕ) (r : Divisor) (v : ValueOf s
               basis = basis-same C (residues p r) (number-at p s) κ (λ i l. ap (el p) (number-is i l)) b;
             }
 
-module _ {g : Ground} (s : List ℕ) (r : Divisor) (v : ValueOf s r) (form : Passes (divisor-form s)) (below : AllBelow (g .p) (numbers r)) (G : Grounded g) where
+module _ {g : Ground} (s : List ℕ) (r : Divisor) (v : ValueOf s r) (form : Passes (divisor-form s)) (below : AllBelow (g .p) (numbers-of r)) (G : Grounded g) where
   abbrev C : Curve (Z (g .p))
   C = G .ready .setting .curve
 

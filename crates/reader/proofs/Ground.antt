@@ -45,8 +45,8 @@ module _ {c : List ℕ} {g : Ground} (o : On c g) where
         ready =
             record {
               setting = setting-of c (o .accepted);
-              f-vec = o .ground .cube-is .vec;
-              f-top = o .ground .cube-is .top;
+              y3-vec = o .ground .cube-is .vec;
+              y3-top = o .ground .cube-is .top;
               cube = subst (λ (C : Curve (Z (modulus c))). Cube (modulus c) C (g .cube)) (curve-value c) (o .ground .cube-is .cube);
             };
         unit-is = subst (λ (C : Curve (Z (modulus c))). Unit-of (modulus c) (g .unit) C) (curve-value c) (o .ground .unit-is);

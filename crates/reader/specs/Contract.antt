@@ -1,6 +1,7 @@
 -- What the functions on records require and ensure.
 --   equation-stages e      what is checked of a curve behind its form, of its equation by value
 --   WriteAsked, WriteAnswer    write_divisor: the record of r at the start of the buffer, the rest as it was
+--   Written r out out′ n κ     … for the kind κ of r
 use mathlib.Core.Path.{_≡_}
 use mathlib.Core.List.{List, _++_}
 use Prim.Native.Nat.{ℕ, _≤_}

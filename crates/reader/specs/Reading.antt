@@ -16,7 +16,7 @@ use Rattle.divisor.specs.Kind.{Kind}
 use Rattle.layout.specs.Layout.{number2}
 use Rattle.ground.specs.declared.Ground.{Ground}
 use Rattle.ground.specs.Ground.{GroundOf}
-use Rattle.basis.specs.Divisor.{Based}
+use Rattle.basis.specs.Divisor.{BasisValue}
 use Rattle.basis.specs.declared.Divisor.{Divisor}
 use Rattle.reader.specs.declared.CurveAnswer.{CurveAnswer}
 use Rattle.reader.specs.declared.CurveAnswer.the-variants as curve
@@ -45,7 +45,7 @@ module _ (p : ℕ) (C : Curve (Z p)) where
   pub record DivisorGiven (s : List ℕ) (r : Divisor) : Type 0 where
     pub accepted : AcceptedDivisor p C s
     pub kind : Kind
-    pub based : Based p C kind r
+    pub based : BasisValue p C kind r
     pub bytes : bytes-of kind r ≡ s
 
   abbrev pub DivisorRead : List ℕ → DivisorAnswer → Type 0

@@ -26,7 +26,7 @@ use Rattle.layout.specs.Layout.{Bytes, Words, number2, number4, record-bytes}
 use Rattle.layout.proofs.Bytes.{length-record, bytes-record}
 use Rattle.layout.proofs.Read.{length-numbers, numbers-at}
 use Rattle.layout.proofs.Record.{record-length, record-kind, record-numbers}
-use Rattle.basis.specs.Divisor.{numbers, residues, Shaped, Based}
+use Rattle.basis.specs.Divisor.{numbers-of, residues, Shaped, BasisValue}
 use Rattle.basis.specs.declared.Divisor.{Divisor}
 use Rattle.record.specs.Divisor.{of-kind, number-at, AcceptedDivisor, IdealOfBytes}
 use Rattle.record.specs.Value.{bytes-of}
@@ -80,42 +80,42 @@ module _ (κ : Kind) (ns : List ℕ) (many : length ns ≡ count κ) where
         (ideal-same C (number-at p (record-bytes (code κ) ns)) (λ i. el p (getD ns i 0)) κ written-residue g)
 
 -- the numbers that the record of a value has
-first-numbers : (κ : Kind) (r : Divisor) → length (take (count κ) (numbers r)) ≡ count κ
-first-numbers κ r = length-take-le (count κ) (numbers r) (count-small κ)
+first-numbers : (κ : Kind) (r : Divisor) → length (take (count κ) (numbers-of r)) ≡ count κ
+first-numbers κ r = length-take-le (count κ) (numbers-of r) (count-small κ)
 
-first-words : (κ : Kind) (r : Divisor) → ((i : ℕ) → getD (numbers r) i 0 < 4294967296) → Words (take (count κ) (numbers r))
-first-words κ r h = take-below 4294967296 (count κ) (numbers r) (omega arith) h
+first-words : (κ : Kind) (r : Divisor) → ((i : ℕ) → getD (numbers-of r) i 0 < 4294967296) → Words (take (count κ) (numbers-of r))
+first-words κ r h = take-below 4294967296 (count κ) (numbers-of r) (omega arith) h
 
 pub length-bytes-of : (κ : Kind) (r : Divisor) → length (bytes-of κ r) ≡ size κ
 unfolding bytes-of
-length-bytes-of κ r = written-length κ (take (count κ) (numbers r)) (first-numbers κ r)
+length-bytes-of κ r = written-length κ (take (count κ) (numbers-of r)) (first-numbers κ r)
 
 pub bytes-bytes-of : (κ : Kind) (r : Divisor) → Bytes (bytes-of κ r)
 unfolding bytes-of
-bytes-bytes-of κ r = bytes-record (code κ) (take (count κ) (numbers r))
+bytes-bytes-of κ r = bytes-record (code κ) (take (count κ) (numbers-of r))
 
 pub bytes-of-kind : (κ : Kind) (r : Divisor) → of-kind (bytes-of κ r) κ
 unfolding bytes-of
-bytes-of-kind κ r = written-kind κ (take (count κ) (numbers r)) (first-numbers κ r)
+bytes-of-kind κ r = written-kind κ (take (count κ) (numbers-of r)) (first-numbers κ r)
 
 pub bytes-of-own : (κ : Kind) (r : Divisor) → number2 (bytes-of κ r) 0 ≡ length (bytes-of κ r)
 unfolding bytes-of
-bytes-of-own κ r = written-own κ (take (count κ) (numbers r)) (first-numbers κ r)
+bytes-of-own κ r = written-own κ (take (count κ) (numbers-of r)) (first-numbers κ r)
 
-pub bytes-of-number : (κ : Kind) (r : Divisor) → ((i : ℕ) → getD (numbers r) i 0 < 4294967296) → (i : ℕ) → i < count κ
-    → number4 (bytes-of κ r) (4 + 4 * i) ≡ getD (numbers r) i 0
+pub bytes-of-number : (κ : Kind) (r : Divisor) → ((i : ℕ) → getD (numbers-of r) i 0 < 4294967296) → (i : ℕ) → i < count κ
+    → number4 (bytes-of κ r) (4 + 4 * i) ≡ getD (numbers-of r) i 0
 unfolding bytes-of
 bytes-of-number κ r w i h =
-    written-number κ (take (count κ) (numbers r)) (first-numbers κ r) (first-words κ r w) i h ∙ getD-take (count κ) (numbers r) i 0 h
+    written-number κ (take (count κ) (numbers-of r)) (first-numbers κ r) (first-words κ r w) i h ∙ getD-take (count κ) (numbers-of r) i 0 h
 
 module _ (p : ℕ) (C : Curve (Z p)) (fits : p ≤ 4294967296) (κ : Kind) (r : Divisor) where
-  words-of : Shaped p κ r → (i : ℕ) → getD (numbers r) i 0 < 4294967296
+  words-of : Shaped p κ r → (i : ℕ) → getD (numbers-of r) i 0 < 4294967296
   words-of h i = omega (arith, h .below i)
 
   bytes-of-residue : Shaped p κ r → (i : ℕ) → i < count κ → number-at p (bytes-of κ r) i ≡ residues p r i
   bytes-of-residue h i l = ap (el p) (bytes-of-number κ r (words-of h) i l)
 
-  pub bytes-of-reads : Based p C κ r → Reads p C κ (bytes-of κ r)
+  pub bytes-of-reads : BasisValue p C κ r → Reads p C κ (bytes-of κ r)
   bytes-of-reads b =
       let h = b .shaped in
       record {
@@ -126,7 +126,7 @@ module _ (p : ℕ) (C : Curve (Z p)) (fits : p ≤ 4294967296) (κ : Kind) (r : 
         basis = basis-same C (residues p r) (number-at p (bytes-of κ r)) κ (λ i l. sym (bytes-of-residue h i l)) (b .basis);
       }
 
-  pub bytes-of-accepted : Based p C κ r → AcceptedDivisor p C (bytes-of κ r)
+  pub bytes-of-accepted : BasisValue p C κ r → AcceptedDivisor p C (bytes-of κ r)
   bytes-of-accepted b = reads-accepted p C κ (bytes-of κ r) (bytes-of-reads b)
 
   pub bytes-of-ideal : Shaped p κ r → SameIdeal (Coordinate C) (IdealOfBytes p C (bytes-of κ r)) (IdealOf C κ (residues p r))
@@ -138,24 +138,24 @@ module _ (p : ℕ) (C : Curve (Z p)) (fits : p ≤ 4294967296) (κ : Kind) (r : 
 -- The value that a reader makes of a record: its kind, its numbers, all below p.
 pub record Holds (p : ℕ) (κ : Kind) (s : List ℕ) (r : Divisor) : Type 0 where
   pub shaped : Shaped p κ r
-  pub number : (i : ℕ) → i < count κ → getD (numbers r) i 0 ≡ number4 s (4 + 4 * i)
+  pub number : (i : ℕ) → i < count κ → getD (numbers-of r) i 0 ≡ number4 s (4 + 4 * i)
 
 module _ (p : ℕ) (C : Curve (Z p)) (κ : Kind) (s : List ℕ) (r : Divisor) (h : Holds p κ s r) where
   pub read-back : Bytes s → Reads p C κ s → bytes-of κ r ≡ s
   unfolding bytes-of
   read-back b a =
-      let same : take (count κ) (numbers r) ≡ layout.numbers s 4 (count κ) =
+      let same : take (count κ) (numbers-of r) ≡ layout.numbers s 4 (count κ) =
       ext-getD
       0
-      (take (count κ) (numbers r))
+      (take (count κ) (numbers-of r))
       (layout.numbers s 4 (count κ))
       (first-numbers κ r ∙ sym (length-numbers s 4 (count κ)))
       (λ i l.
       let few : i < count κ = omega (arith, first-numbers κ r) in
-      getD-take (count κ) (numbers r) i 0 few ∙ h .number i few ∙ sym (numbers-at s 4 (count κ) i few)) in
+      getD-take (count κ) (numbers-of r) i 0 few ∙ h .number i few ∙ sym (numbers-at s 4 (count κ) i few)) in
       ap (record-bytes (code κ)) same ∙ sym (reads-whole p C κ s b a)
 
-  pub read-based : IsBasis C κ (number-at p s) → Based p C κ r
+  pub read-based : IsBasis C κ (number-at p s) → BasisValue p C κ r
   read-based b =
       record {
         shaped = h .shaped;

@@ -27,6 +27,6 @@ abbrev pub Passes : List Stage → Type 0
 Passes [] = Unit
 Passes (s ∷ ss) = s .passed × Passes ss
 
--- "bytes under 4, length field unlike the bytes given"
+-- four bytes or more, with the length field like the bytes given; otherwise: "bytes under 4, length field unlike the bytes given"
 abbrev pub Sized : List ℕ → Type 0
 Sized s = (4 ≤ length s) × (number2 s 0 ≡ length s)

@@ -86,40 +86,40 @@ abbrev outer : {p : ℕ} (S : Setting p) (t₁ t₂ : List (List ℕ)) → ℕ �
 outer {p} S t₁ t₂ zero = []
 outer {p} S t₁ t₂ (suc j) = listed (λ i. ring S .mul (element p (S .curve) (row t₁ i)) (element p (S .curve) (row t₂ j))) 3 (outer S t₁ t₂ j)
 
-pub record Multiplying (p : ℕ) (f : List ℕ) (t₁ t₂ t : List (List ℕ)) (d : List ℕ) (j : ℕ) : Type 0 where
+pub record Multiplying (p : ℕ) (y3 : List ℕ) (t₁ t₂ t : List (List ℕ)) (d : List ℕ) (j : ℕ) : Type 0 where
   pub bound : j ≤ 3
   pub triple : Triple p t d
-  pub same : (R : Ready p f) → SameIdeal (ring (R .setting)) (Spanned (R .setting) t) (Span (poles-of (R .setting)) (outer (R .setting) t₁ t₂ j))
+  pub same : (R : Ready p y3) → SameIdeal (ring (R .setting)) (Spanned (R .setting) t) (Span (poles-of (R .setting)) (outer (R .setting) t₁ t₂ j))
 
-module _ {p : ℕ} {f : List ℕ} {t₁ : List (List ℕ)} {d₁ : List ℕ} {t₂ : List (List ℕ)} {d₂ : List ℕ} (h : ProductAsked p f t₁ d₁ t₂ d₂) where
+module _ {p : ℕ} {y3 : List ℕ} {t₁ : List (List ℕ)} {d₁ : List ℕ} {t₂ : List (List ℕ)} {d₂ : List ℕ} (h : ProductAsked p y3 t₁ d₁ t₂ d₂) where
   prime : Prime p
   prime = h .ready .setting .prime
 
   positive : 0 < p
   positive = omega (arith, prime .two-le)
 
-  pub multiply-start : Multiplying p f t₁ t₂ no-rows no-degrees 0
+  pub multiply-start : Multiplying p y3 t₁ t₂ no-rows no-degrees 0
   multiply-start = record { bound = omega arith; triple = empty-triple positive; same = λ R. empty-same positive (R .setting) }
 
   module _ {j : ℕ} (l : j < 3) where
-    pub multiples-asked : YMultiplesAsked p f (row t₂ j) (at d₂ j + 1)
+    pub multiples-asked : YMultiplesAsked p y3 (row t₂ j) (at d₂ j + 1)
     multiples-asked =
         record {
-          f-vec = h .ready .f-vec;
-          f-top = h .ready .f-top;
+          y3-vec = h .ready .y3-vec;
+          y3-top = h .ready .y3-top;
           v-vec = h .full₂ .triple .member j l .vec;
           v-top = λ i k. h .full₂ .present j l .top i (omega arith);
           room = omega (arith, h .small₂ j l);
         }
 
-    module _ {t : List (List ℕ)} {d : List ℕ} {ys : List (List ℕ)} (q : Multiplying p f t₁ t₂ t d j) (m : YMultiples p f (row t₂ j) (at d₂ j + 1) ys) where
+    module _ {t : List (List ℕ)} {d : List ℕ} {ys : List (List ℕ)} (q : Multiplying p y3 t₁ t₂ t d j) (m : YMultiples p y3 (row t₂ j) (at d₂ j + 1) ys) where
       pub products-asked : PutAsked p t₁ d₁ ys (at d₂ j + 1) t d
       products-asked = record { prime = prime; full = h .full₁; small = h .small₁; rows = m .rows; low = omega (arith, h .small₂ j l); triple = q .triple }
 
-      pub multiply-more : {t′ : List (List ℕ)} {d′ : List ℕ} → ProductsPut p t₁ ys t t′ d′ → Multiplying p f t₁ t₂ t′ d′ (j + 1)
-      multiply-more {t′} {d′} r = subst (Multiplying p f t₁ t₂ t′ d′) (sym (add-one j)) (record { bound = l; triple = r .triple; same = same })
+      pub multiply-more : {t′ : List (List ℕ)} {d′ : List ℕ} → ProductsPut p t₁ ys t t′ d′ → Multiplying p y3 t₁ t₂ t′ d′ (j + 1)
+      multiply-more {t′} {d′} r = subst (Multiplying p y3 t₁ t₂ t′ d′) (sym (add-one j)) (record { bound = l; triple = r .triple; same = same })
         where
-          same : (R : Ready p f) → SameIdeal (ring (R .setting)) (Spanned (R .setting) t′) (Span (poles-of (R .setting)) (outer (R .setting) t₁ t₂ (suc j)))
+          same : (R : Ready p y3) → SameIdeal (ring (R .setting)) (Spanned (R .setting) t′) (Span (poles-of (R .setting)) (outer (R .setting) t₁ t₂ (suc j)))
           same R =
               same-trans (ring S) (r .same S (element p (S .curve) (row t₂ j)) (m .value (S .curve) (R .cube)))
               (listed-same (poles-of S) (λ i. ring S .mul (element p (S .curve) (row t₁ i)) (element p (S .curve) (row t₂ j))) 3 (elements S t) (outer S t₁ t₂ j) (q .same R))
@@ -166,10 +166,10 @@ module _ {p : ℕ} (S : Setting p) (t₁ t₂ : List (List ℕ)) (len₁ : lengt
           (λ i l. each-row S (λ b. Span (poles-of S) (outer S t₁ t₂ 3) (ring S .mul (element p (S .curve) (row t₁ i)) b)) t₂
           (λ j k. outer-at S t₁ t₂ (Span (poles-of S) (outer S t₁ t₂ 3)) 3 (span-each (poles-of S) (outer S t₁ t₂ 3)) j i (omega arith) (omega arith))))
 
-module _ {p j : ℕ} {f : List ℕ} {t₁ : List (List ℕ)} {d₁ : List ℕ} {t₂ : List (List ℕ)} {d₂ : List ℕ} {t : List (List ℕ)} {d : List ℕ}
-    (h : ProductAsked p f t₁ d₁ t₂ d₂) (q : Multiplying p f t₁ t₂ t d j) (end : 3 ≤ j) where
-  done : Multiplying p f t₁ t₂ t d 3
-  done = subst (Multiplying p f t₁ t₂ t d) {x = j} {y = 3} (omega (arith, q .bound)) q
+module _ {p j : ℕ} {y3 : List ℕ} {t₁ : List (List ℕ)} {d₁ : List ℕ} {t₂ : List (List ℕ)} {d₂ : List ℕ} {t : List (List ℕ)} {d : List ℕ}
+    (h : ProductAsked p y3 t₁ d₁ t₂ d₂) (q : Multiplying p y3 t₁ t₂ t d j) (end : 3 ≤ j) where
+  done : Multiplying p y3 t₁ t₂ t d 3
+  done = subst (Multiplying p y3 t₁ t₂ t d) {x = j} {y = 3} (omega (arith, q .bound)) q
 
   -- the product of the i-th member and the second triple's member of class 0 fills the class i
   filled : (i : ℕ) → i < 3 → at d i < width
@@ -186,7 +186,7 @@ module _ {p j : ℕ} {f : List ℕ} {t₁ : List (List ℕ)} {d₁ : List ℕ} {
       inside : Spanned S t (ring S .mul (element p (S .curve) (row t₁ i)) (element p (S .curve) (row t₂ 0)))
       inside = done .same (h .ready) _ .1 (outer-at S t₁ t₂ (Span (poles-of S) (outer S t₁ t₂ 3)) 3 (span-each (poles-of S) (outer S t₁ t₂ 3)) 0 i (omega arith) l)
 
-  pub multiply-end : Multiplied p f t₁ t₂ t d
+  pub multiply-end : Multiplied p y3 t₁ t₂ t d
   multiply-end =
       record
       { full = full-of (q .triple) filled; same = λ R. same-trans (ring (R .setting)) (done .same R) (outer-product (R .setting) t₁ t₂ (h .full₁ .triple .len-t) (h .full₂ .triple .len-t)) }

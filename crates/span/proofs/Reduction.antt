@@ -144,26 +144,26 @@ module _ {p n m : ℕ} {t : List (List ℕ)} {d v v′ : List ℕ} (h : Reducing
 pub reduce-end : {p n : ℕ} {t : List (List ℕ)} {d v v′ : List ℕ} → Reducing p t d v v′ n → n ≡ 0 → Rest p t d v v′
 reduce-end h e = record { vec = h .vec; normal = λ m l r. h .normal m (omega arith) l r; coset = h .coset }
 
-module _ {p j : ℕ} {f : List ℕ} {t : List (List ℕ)} {d : List ℕ} (h : AtAsked p f t d j) where
+module _ {p j : ℕ} {y3 : List ℕ} {t : List (List ℕ)} {d : List ℕ} (h : AtAsked p y3 t d j) where
   small : at d j ≤ 8
   small = h .closed .small j (h .inside)
 
-  pub at-times-asked : TimesYAsked p f (row t j) (at d j + 1)
+  pub at-times-asked : TimesYAsked p y3 (row t j) (at d j + 1)
   at-times-asked =
       record {
-        f-vec = h .closed .ready .f-vec;
-        f-top = h .closed .ready .f-top;
+        y3-vec = h .closed .ready .y3-vec;
+        y3-top = h .closed .ready .y3-top;
         v-vec = h .closed .full .triple .member j (h .inside) .vec;
         v-top = λ i l. h .closed .full .present j (h .inside) .top i (omega arith);
         room = omega (arith, small);
       }
 
-  pub at-reduce-asked : {w : List ℕ} → TimesY p f (row t j) (at d j + 1) w → ReduceAsked p t d w (at d j + 5)
+  pub at-reduce-asked : {w : List ℕ} → TimesY p y3 (row t j) (at d j + 1) w → ReduceAsked p t d w (at d j + 5)
   at-reduce-asked a = record { triple = h .closed .full .triple; vec = a .vec; v-top = λ i l. a .top-out i (omega arith); room = omega (arith, small) }
 
 -- y times the j-th member is a vector w, which leaves the rest v
-module _ {p top : ℕ} {f : List ℕ} (t : List (List ℕ)) (j : ℕ) {d w v : List ℕ} (a : TimesY p f (row t j) top w) (r : Rest p t d w v) where
-  pub at-yes : Top v 0 → (R : Ready p f) → Spanned (R .setting) t (ring (R .setting) .mul (y (R .setting .curve)) (element p (R .setting .curve) (row t j)))
+module _ {p top : ℕ} {y3 : List ℕ} (t : List (List ℕ)) (j : ℕ) {d w v : List ℕ} (a : TimesY p y3 (row t j) top w) (r : Rest p t d w v) where
+  pub at-yes : Top v 0 → (R : Ready p y3) → Spanned (R .setting) t (ring (R .setting) .mul (y (R .setting .curve)) (element p (R .setting .curve) (row t j)))
   at-yes z R = go (r .coset S)
     where
       S : Setting p
@@ -172,7 +172,7 @@ module _ {p top : ℕ} {f : List ℕ} (t : List (List ℕ)) (j : ℕ) {d w v : L
       go : (s : ring S .Car) × Spanned S t s × (element p (S .curve) w ≡ ring S .add (element p (S .curve) v) s) → Spanned S t (ring S .mul (y (S .curve)) (element p (S .curve) (row t j)))
       go (s, i, e) = subst (Spanned S t) (sym (sym (a .value (S .curve) (R .cube)) ∙ e ∙ ap (λ g. ring S .add g s) (element-zero S (r .vec) z) ∙ L.zero-add (ring S) s)) i
 
-  pub at-no : j < 3 → (n : ℕ) → 0 < at v n → (R : Ready p f) → Open p f t d R
+  pub at-no : j < 3 → (n : ℕ) → 0 < at v n → (R : Ready p y3) → Open p y3 t d R
   at-no l n k R = go (r .coset S)
     where
       S : Setting p
@@ -185,7 +185,7 @@ module _ {p top : ℕ} {f : List ℕ} (t : List (List ℕ)) (j : ℕ) {d w v : L
       none m b (yes q) = r .normal m q b
       none m b (no q) = List·getD-eq-default v 0 (omega (arith, r .vec .len))
 
-      go : (s : ring S .Car) × Spanned S t s × (element p (S .curve) w ≡ ring S .add (element p (S .curve) v) s) → Open p f t d R
+      go : (s : ring S .Car) × Spanned S t s × (element p (S .curve) w ≡ ring S .add (element p (S .curve) v) s) → Open p y3 t d R
       go (s, i, e) =
           record {
             j = j;
@@ -198,27 +198,27 @@ module _ {p top : ℕ} {f : List ℕ} (t : List (List ℕ)) (j : ℕ) {d w v : L
             normal = λ m b. element-coefficient p (S .curve) (r .vec) m ∙ ap (el p) (none m b (decLt m width)) ∙ el-zero p;
           }
 
-  pub at-test : {q : Bool} → j < 3 → ZeroTest v q → AtTest p f t d j q
+  pub at-test : {q : Bool} → j < 3 → ZeroTest v q → AtTest p y3 t d j q
   at-test l z = record { yes-at = λ e. at-yes (z .zero-vector e); no-at = λ e. let (n, b, k) = z .nonzero e in at-no l n k }
 
 -- y times each of the first j members is in the span
-pub record Closing (p : ℕ) (f : List ℕ) (t : List (List ℕ)) (d : List ℕ) (j : ℕ) : Type 0 where
-  pub asked : ClosedAsked p f t d
-  pub seen : (i : ℕ) → i < j → (R : Ready p f) → Spanned (R .setting) t (ring (R .setting) .mul (y (R .setting .curve)) (element p (R .setting .curve) (row t i)))
+pub record Closing (p : ℕ) (y3 : List ℕ) (t : List (List ℕ)) (d : List ℕ) (j : ℕ) : Type 0 where
+  pub asked : ClosedAsked p y3 t d
+  pub seen : (i : ℕ) → i < j → (R : Ready p y3) → Spanned (R .setting) t (ring (R .setting) .mul (y (R .setting .curve)) (element p (R .setting .curve) (row t i)))
 
-pub closed-start : {p : ℕ} {f : List ℕ} {t : List (List ℕ)} {d : List ℕ} → ClosedAsked p f t d → Closing p f t d 0
+pub closed-start : {p : ℕ} {y3 : List ℕ} {t : List (List ℕ)} {d : List ℕ} → ClosedAsked p y3 t d → Closing p y3 t d 0
 closed-start h = record { asked = h; seen = λ i l. absurd (omega arith) }
 
-module _ {p j : ℕ} {f : List ℕ} {t : List (List ℕ)} {d : List ℕ} (h : Closing p f t d j) where
-  pub closed-more : {r : Bool} → AtTest p f t d j r → not r ≡ false → Closing p f t d (j + 1)
+module _ {p j : ℕ} {y3 : List ℕ} {t : List (List ℕ)} {d : List ℕ} (h : Closing p y3 t d j) where
+  pub closed-more : {r : Bool} → AtTest p y3 t d j r → not r ≡ false → Closing p y3 t d (j + 1)
   closed-more {r} a e = record { asked = h .asked; seen = λ i l. go i l (ℕ-discrete i j) }
     where
-      go : (i : ℕ) → i < j + 1 → Dec (i ≡ j) → (R : Ready p f) → Spanned (R .setting) t (ring (R .setting) .mul (y (R .setting .curve)) (element p (R .setting .curve) (row t i)))
+      go : (i : ℕ) → i < j + 1 → Dec (i ≡ j) → (R : Ready p y3) → Spanned (R .setting) t (ring (R .setting) .mul (y (R .setting .curve)) (element p (R .setting .curve) (row t i)))
       go i l (yes q) = rw q (a .yes-at (not-false r e))
       go i l (no q) = h .seen i (omega arith)
 
-  pub closed-stop : {r : Bool} → AtTest p f t d j r → not r ≡ true → ClosedTest p f t d false
+  pub closed-stop : {r : Bool} → AtTest p y3 t d j r → not r ≡ true → ClosedTest p y3 t d false
   closed-stop {r} a e = record { yes-closed = λ q. let z : _≡_ {A = ℕ} 0 1 = cc in absurd (omega arith); no-closed = λ q. a .no-at (not-true r e) }
 
-  pub closed-end : 3 ≤ j → ClosedTest p f t d true
+  pub closed-end : 3 ≤ j → ClosedTest p y3 t d true
   closed-end l = record { yes-closed = λ q R i k. h .seen i (omega arith) R; no-closed = λ q. let z : _≡_ {A = ℕ} 0 1 = cc in absurd (omega arith) }

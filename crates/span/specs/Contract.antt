@@ -37,13 +37,13 @@ pub record Rest (p : ℕ) (t : List (List ℕ)) (d v v′ : List ℕ) : Type 0 w
 abbrev pub Small : List ℕ → Type 0
 Small d = (j : ℕ) → j < 3 → at d j ≤ 8
 
-pub record ClosedAsked (p : ℕ) (f : List ℕ) (t : List (List ℕ)) (d : List ℕ) : Type 0 where
-  pub ready : Ready p f
+pub record ClosedAsked (p : ℕ) (y3 : List ℕ) (t : List (List ℕ)) (d : List ℕ) : Type 0 where
+  pub ready : Ready p y3
   pub full : Full p t d
   pub small : Small d
 
 -- y times the j-th member leaves a rest that is not zero and has no coefficient at a lead of the span
-pub record Open (p : ℕ) (f : List ℕ) (t : List (List ℕ)) (d : List ℕ) (R : Ready p f) : Type 0 where
+pub record Open (p : ℕ) (y3 : List ℕ) (t : List (List ℕ)) (d : List ℕ) (R : Ready p y3) : Type 0 where
   pub j : ℕ
   pub j-below : j < 3
   pub rest : ring (R .setting) .Car
@@ -53,31 +53,31 @@ pub record Open (p : ℕ) (f : List ℕ) (t : List (List ℕ)) (d : List ℕ) (R
   pub nonzero : ¬ (rest ≡ ring (R .setting) .zero)
   pub normal : (n : ℕ) → at d (n % 3) ≤ n → coefficient (R .setting .curve) n rest ≡ Z p .zero
 
-pub record ClosedTest (p : ℕ) (f : List ℕ) (t : List (List ℕ)) (d : List ℕ) (r : Bool) : Type 0 where
+pub record ClosedTest (p : ℕ) (y3 : List ℕ) (t : List (List ℕ)) (d : List ℕ) (r : Bool) : Type 0 where
   pub yes-closed :
-      r ≡ true → (R : Ready p f) (j : ℕ) → j < 3 →
+      r ≡ true → (R : Ready p y3) (j : ℕ) → j < 3 →
       Spanned (R .setting) t (ring (R .setting) .mul (y (R .setting .curve)) (element p (R .setting .curve) (row t j)))
-  pub no-closed : r ≡ false → (R : Ready p f) → Open p f t d R
+  pub no-closed : r ≡ false → (R : Ready p y3) → Open p y3 t d R
 
-pub record AtAsked (p : ℕ) (f : List ℕ) (t : List (List ℕ)) (d : List ℕ) (j : ℕ) : Type 0 where
-  pub closed : ClosedAsked p f t d
+pub record AtAsked (p : ℕ) (y3 : List ℕ) (t : List (List ℕ)) (d : List ℕ) (j : ℕ) : Type 0 where
+  pub closed : ClosedAsked p y3 t d
   pub inside : j < 3
 
-pub record AtTest (p : ℕ) (f : List ℕ) (t : List (List ℕ)) (d : List ℕ) (j : ℕ) (r : Bool) : Type 0 where
-  pub yes-at : r ≡ true → (R : Ready p f) → Spanned (R .setting) t (ring (R .setting) .mul (y (R .setting .curve)) (element p (R .setting .curve) (row t j)))
-  pub no-at : r ≡ false → (R : Ready p f) → Open p f t d R
+pub record AtTest (p : ℕ) (y3 : List ℕ) (t : List (List ℕ)) (d : List ℕ) (j : ℕ) (r : Bool) : Type 0 where
+  pub yes-at : r ≡ true → (R : Ready p y3) → Spanned (R .setting) t (ring (R .setting) .mul (y (R .setting .curve)) (element p (R .setting .curve) (row t j)))
+  pub no-at : r ≡ false → (R : Ready p y3) → Open p y3 t d R
 
-pub record ProductAsked (p : ℕ) (f : List ℕ) (t₁ : List (List ℕ)) (d₁ : List ℕ) (t₂ : List (List ℕ)) (d₂ : List ℕ) : Type 0 where
-  pub ready : Ready p f
+pub record ProductAsked (p : ℕ) (y3 : List ℕ) (t₁ : List (List ℕ)) (d₁ : List ℕ) (t₂ : List (List ℕ)) (d₂ : List ℕ) : Type 0 where
+  pub ready : Ready p y3
   pub full₁ : Full p t₁ d₁
   pub small₁ : Small d₁
   pub full₂ : Full p t₂ d₂
   pub small₂ : Small d₂
 
-pub record Multiplied (p : ℕ) (f : List ℕ) (t₁ t₂ t : List (List ℕ)) (d : List ℕ) : Type 0 where
+pub record Multiplied (p : ℕ) (y3 : List ℕ) (t₁ t₂ t : List (List ℕ)) (d : List ℕ) : Type 0 where
   pub full : Full p t d
   pub same :
-      (R : Ready p f) →
+      (R : Ready p y3) →
       SameIdeal (ring (R .setting)) (Spanned (R .setting) t) (Product (ring (R .setting)) (Spanned (R .setting) t₁) (Spanned (R .setting) t₂))
 
 pub record PutAsked (p : ℕ) (t₁ : List (List ℕ)) (d₁ : List ℕ) (ys : List (List ℕ)) (top : ℕ) (t : List (List ℕ)) (d : List ℕ) : Type 0 where

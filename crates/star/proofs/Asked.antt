@@ -70,7 +70,7 @@ module _ {g : Ground} {t : List (List ℕ)} {d : List ℕ} (A : StarAsked g t d)
       record {
         inside = h;
         low = l;
-        asked = record { f-vec = ready .f-vec; f-top = ready .f-top; v-vec = vec i h; v-top = λ n b. present i h .top n (omega arith); room = omega arith };
+        asked = record { y3-vec = ready .y3-vec; y3-top = ready .y3-top; v-vec = vec i h; v-top = λ n b. present i h .top n (omega arith); room = omega arith };
       }
 
   -- a lead of the class of the i-th member

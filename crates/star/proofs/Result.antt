@@ -33,7 +33,7 @@ use Rattle.functional.proofs.Candidate.{Scene, Solves, meets-one, meets-x, meet
 use Rattle.triple.specs.Setting.{poles-of}
 use Rattle.triple.specs.Triple.{Spanned}
 use Rattle.ground.specs.declared.Ground.{Ground}
-use Rattle.basis.specs.Divisor.{divisor-0, numbers, residues}
+use Rattle.basis.specs.Divisor.{divisor-0, numbers-of, residues}
 use Rattle.basis.specs.declared.Divisor.{Divisor}
 use Rattle.lambda.specs.declared.Pose.{Pose}
 use Rattle.lambda.specs.Lambda.{FunctionalAsked, FunctionalOf}
@@ -103,13 +103,13 @@ module _ {g : Ground} {t : List (List ℕ)} {d : List ℕ} (A : StarAsked g t d)
   zeros (suc n) = (positive, zeros n)
 
   -- a divisor of the kind whose polynomials lie in the colon ideal
-  starred : (κ : Kind) (r : Divisor) → r .kind ≡ code κ → Every (λ n. n < p) (numbers r) → Matched K C (S A .nonzero) (Spanned (S A) t) κ d₀
+  starred : (κ : Kind) (r : Divisor) → r .kind ≡ code κ → Every (λ n. n < p) (numbers-of r) → Matched K C (S A .nonzero) (Spanned (S A) t) κ d₀
       → Every InStar (polynomials C κ (residues p r)) → Starred p (S A) t r
   starred κ r e below m es =
       let (b, i) = star-recognised K C (S A .nonzero) κ (residues p r) (least-element A L) (member-pole A j (L .inside)) m es in
       record {
         kind = κ;
-        based = record { shaped = record { kind = e; below = below-each (numbers r) below positive }; basis = b };
+        based = record { shaped = record { kind = e; below = below-each (numbers-of r) below positive }; basis = b };
         star = i;
       }
 

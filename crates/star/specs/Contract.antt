@@ -15,7 +15,7 @@ use Rattle.triple.specs.Setting.{Setting, ring, poles-of}
 use Rattle.triple.specs.Triple.{Full, Spanned}
 use Rattle.ground.specs.declared.Ground.{Ground}
 use Rattle.ground.specs.Ground.{Grounded}
-use Rattle.basis.specs.Divisor.{residues, Based}
+use Rattle.basis.specs.Divisor.{residues, BasisValue}
 use Rattle.basis.specs.declared.Divisor.{Divisor}
 
 -- the least degree is at most 12
@@ -27,7 +27,7 @@ pub record StarAsked (g : Ground) (t : List (List ℕ)) (d : List ℕ) : Type 0 
 
 pub record Starred (p : ℕ) (S : Setting p) (t : List (List ℕ)) (r : Divisor) : Type 0 where
   pub kind : Kind
-  pub based : Based p (S .curve) kind r
+  pub based : BasisValue p (S .curve) kind r
   pub star : IsStar (poles-of S) (Spanned S t) (IdealOf (S .curve) kind (residues p r))
 
 abbrev pub StarOf : (g : Ground) (t : List (List ℕ)) (d : List ℕ) → Divisor → Type 0

@@ -1,6 +1,7 @@
 -- The elements of the ring that vectors stand for: their coefficients and their poles.
 --   x-is, y-is             x and y are the monomials of pole numbers 3 and 4
 --   constant-in, x-to-in   constants and powers of x are polynomials in x
+--   coefficient-zero       where a vector has the number 0, its element has the coefficient zero
 --   lead-pole              a place with a nonzero number is a pole number
 --   element-below          a vector below n is an element below n
 --   element-zero           a vector of zeros is zero

@@ -1,4 +1,6 @@
 -- The leads of the span of a triple: the numbers n from the degree of the member of n's class on.
+--   degree-most            a degree is 26 at most
+--   Leads Q g              g is zero, or has a pole number of which Q holds
 --   present-of             a member with a degree below 26 is present
 --   full-of                a triple with such degrees is full
 --   spanned-lead           an element of the span with the pole number n has the member of n's class below or at n

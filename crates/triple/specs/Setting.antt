@@ -1,7 +1,7 @@
 -- The ground of the arithmetic: a prime p, a curve over the field of p elements with a0 ≢ 0, and the vector of y³.
 --   Setting p          a prime p and a curve over the residues modulo p with a0 ≢ 0
 --   ring S, poles-of S the curve's coordinate ring and its pole numbers
---   Ready p f          a setting whose y³ is the vector f
+--   Ready p y3         a setting whose y³ is the vector y3
 use mathlib.Core.Path.{_≡_}
 use mathlib.Core.List.{List}
 use Prim.Native.Nat.{ℕ}
@@ -26,8 +26,8 @@ ring S = Coordinate (S .curve)
 abbrev pub poles-of : {p : ℕ} (S : Setting p) → Poles (ring S)
 poles-of {p} S = poles (F p (S .prime)) (S .curve) (S .nonzero)
 
-pub record Ready (p : ℕ) (f : List ℕ) : Type 0 where
+pub record Ready (p : ℕ) (y3 : List ℕ) : Type 0 where
   pub setting : Setting p
-  pub f-vec : Vec p f
-  pub f-top : Top f 13
-  pub cube : Cube p (setting .curve) f
+  pub y3-vec : Vec p y3
+  pub y3-top : Top y3 13
+  pub cube : Cube p (setting .curve) y3

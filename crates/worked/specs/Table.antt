@@ -4,6 +4,7 @@
 --   Row                a worked sum: the curve's bytes c, the inputs, the result w or the number n of the refusal
 --   Means r            what it says by the definitions of a sum, of a negative and so on, and of a refusal
 --   Answer r           … and what the call then returns and leaves, whichever way it is carried out
+--   Writes-just, Returns-just      a call that writes leaves w; a check returns n
 --   Point c a b        the ideal of the point (a, b)
 --   zero-class         the record of the zero class
 --   E, one-two, P, D   the curves and points that they speak of

@@ -6,10 +6,10 @@ use Rattle.multiplication.proofs.times_y.Statement.{statement}
 use Rattle.multiplication.proofs.times_y.Tie as tie
 
 abbrev Inv-loop : tie.InvT-loop
-Inv-loop p f v top out₀ n₀ out n = YPart p f v top n out
+Inv-loop p y3 v top out₀ n₀ out n = YPart p y3 v top n out
 
 abbrev μ-loop : tie.MeasureT-loop
-μ-loop p f v top out₀ n₀ out n = top - n
+μ-loop p y3 v top out₀ n₀ out n = top - n
 
 shift-y-requires : tie.Need-shift-y-requires Inv-loop μ-loop
 shift-y-requires c κs = record { room = omega arith }

@@ -6,10 +6,10 @@ use Rattle.span.proofs.closed.Statement.{statement}
 use Rattle.span.proofs.closed.Tie as tie
 
 abbrev Inv-loop : tie.InvT-loop
-Inv-loop p f t d j₀ j = Closing p f t d j
+Inv-loop p y3 t d j₀ j = Closing p y3 t d j
 
 abbrev μ-loop : tie.MeasureT-loop
-μ-loop p f t d j₀ j = 3 - j
+μ-loop p y3 t d j₀ j = 3 - j
 
 loop-holds : tie.Need-loop-holds Inv-loop μ-loop
 loop-holds c = closed-start (c .pre)

@@ -6,10 +6,10 @@ use Rattle.span.proofs.product.Statement.{statement}
 use Rattle.span.proofs.product.Tie as tie
 
 abbrev Inv-loop : tie.InvT-loop
-Inv-loop p f t1 d1 t2 d2 t₀ d₀ j₀ t d j = Multiplying p f t1 t2 t d j
+Inv-loop p y3 t1 d1 t2 d2 t₀ d₀ j₀ t d j = Multiplying p y3 t1 t2 t d j
 
 abbrev μ-loop : tie.MeasureT-loop
-μ-loop p f t1 d1 t2 d2 t₀ d₀ j₀ t d j = 3 - j
+μ-loop p y3 t1 d1 t2 d2 t₀ d₀ j₀ t d j = 3 - j
 
 loop-holds : tie.Need-loop-holds Inv-loop μ-loop
 loop-holds c = multiply-start (c .before .before .pre)
