@@ -1,4 +1,3 @@
 -- From the records of a list to what is printed.
 pub mod Parts
-pub mod Records
 pub mod Printed

@@ -28,9 +28,10 @@ use Rattle.report.specs.Report.{refused-line, lines, refused, counted}
 use Rattle.tallies.specs.declared.Tallies.{Tallies}
 use Rattle.printing.specs.Contracts.{longest, AllPut}
 use Rattle.tallies.proofs.More.{tallies-bounded}
-use Rattle.counting.specs.declared.PassAnswer.{PassAnswer}
-use Rattle.counting.specs.declared.PassAnswer.the-variants as answer
-use Rattle.counting.specs.Contracts.{PassFound, Printable, PassPut, PrintedOn}
+use Rattle.pass.specs.declared.PassAnswer.{PassAnswer}
+use Rattle.pass.specs.declared.PassAnswer.the-variants as answer
+use Rattle.pass.specs.Found.{PassFound}
+use Rattle.counting.specs.Contracts.{Printable, PassPut, PrintedOn}
 
 pub printable : (c : List ℕ) (ss : List Stage) (s : List ℕ) (r : PassAnswer) → PassFound c ss s r → Printable r
 printable c ss s (answer.All x t) f =

@@ -1,70 +1,19 @@
 // The counting program: the report on an input, put into a lent buffer; crate report, specs/Report.antt, says what that is.
-use basis::Divisor;
-use ground::Ground;
+use pass::PassAnswer;
 use reader::CurveAnswer;
-use reader::NextAnswer;
-use tallies::Tallies;
-ghost use mathlib.Core.List.{[], _∷_};
 ghost use mathlib.Core.Path.{_≡_};
 ghost use Prim.Native.Nat.{_≤_, min};
-ghost use Rattle.record.specs.Curve.{modulus, equation, curve-size};
-ghost use Rattle.record.specs.Listed.{list-stage, list-limit};
-ghost use Rattle.calls.specs.Call.{list-of};
-ghost use Rattle.classes.specs.Found.{Curved, OnCurves};
+ghost use Rattle.record.specs.Curve.{curve-size};
 ghost use Rattle.report.specs.Report.{Report};
 ghost use Rattle.report.specs.Input.{enough, ReportsRead};
 ghost use Rattle.printing.specs.Contracts.{longest};
-ghost use Rattle.counting.specs.Contracts.{PassFound, Printable, PassPut, PrintedOn};
+ghost use Rattle.counting.specs.Contracts.{Printable, PassPut, PrintedOn};
 
 // The length of a curve's record.
 const CURVE_SIZE: usize = 44;
 
 // Room for a curve and one byte more than the longest list.
 pub const INPUT_ROOM: usize = CURVE_SIZE + reader::LIST_LIMIT + 1;
-
-// The sum and the tallies of the records of a list, or the number of the first cause of refusal.
-pub enum PassAnswer {
-    All(Divisor, Tallies),
-    Refused(u8),
-}
-
-// The sum and the tallies of the records of a list, read one after another.
-fn pass(g: Ground, list: &[u8]) -> PassAnswer
-    requires { ⌜ Curved g ⌝ }
-    requires { do ⌜ (← ⟦list.len()⟧) ≤ list-limit ⌝ }
-    ensures { λ r. ⌜ OnCurves g (λ c. PassFound c (list-stage (modulus c) (equation c) (now (list .entry)) ∷ []) (now (list .entry)) r) ⌝ }
-{
-    let mut sum = group::zero_class();
-    let mut tallies = tallies::no_records();
-    let mut at = 0;
-    while at < list.len() {
-        let read = reader::read_next(g, &list[at..]);
-        match read {
-            NextAnswer::Next(x, n) => {
-                let s = group::sum(g, sum, x);
-                let t = tallies::add(tallies, x);
-                sum = s;
-                tallies = t;
-                at += n;
-            }
-            NextAnswer::Refused(n) => {
-                return PassAnswer::Refused(n);
-            }
-        }
-    }
-    PassAnswer::All(sum, tallies)
-}
-
-// The same of a list of any length: one that is too long is refused first.
-fn pass_on(g: Ground, list: &[u8]) -> PassAnswer
-    requires { ⌜ Curved g ⌝ }
-    ensures { λ r. ⌜ OnCurves g (λ c. PassFound c (list-of c (now (list .entry))) (now (list .entry)) r) ⌝ }
-{
-    if list.len() > reader::LIST_LIMIT {
-        return PassAnswer::Refused(11);
-    }
-    pass(g, list)
-}
 
 // All that is printed for what was found of a list.
 fn put_pass(out: &mut [u8], p: PassAnswer) -> usize
@@ -91,7 +40,7 @@ fn put_report(out: &mut [u8], curve: &[u8], list: &[u8]) -> usize
     match read {
         CurveAnswer::Curve(e) => {
             let g = ground::of(e);
-            let found = pass_on(g, list);
+            let found = pass::pass_on(g, list);
             put_pass(out, found)
         }
         CurveAnswer::Refused(n) => printing::put_refused(out, n),

@@ -2,5 +2,4 @@
 pub mod Primes
 pub mod Cofactor
 pub mod Walk
-pub mod Trial
 pub mod Answer

@@ -1,3 +1,2 @@
--- Primes, and what the parts of the trial division say.
+-- Primes.
 pub mod Prime
-pub mod Trial

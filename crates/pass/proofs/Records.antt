@@ -22,9 +22,9 @@ use Rattle.classes.proofs.Lists.{summed-none, summed-asked, summed-more}
 use Rattle.tallies.specs.declared.Tallies.{Tallies}
 use Rattle.tallies.specs.Tallied.{TalliesOf, Bounded, AddedTo}
 use Rattle.tallies.proofs.More.{tallies-bounded, record-given}
-use Rattle.counting.specs.declared.PassAnswer.{PassAnswer}
-use Rattle.counting.specs.declared.PassAnswer.the-variants as answer
-use Rattle.counting.specs.Contracts.{Totals, PassFound}
+use Rattle.pass.specs.declared.PassAnswer.{PassAnswer}
+use Rattle.pass.specs.declared.PassAnswer.the-variants as answer
+use Rattle.pass.specs.Found.{Totals, PassFound}
 
 pub totals-none : {g : Ground} {z : Divisor} {t : Tallies} → ZeroClass z → TalliesOf [] t → (c : List ℕ) → On c g → Totals z t c []
 totals-none h k c o = record { sum = summed-none h c o; tallies = k }

@@ -3,9 +3,9 @@ use mathlib.Core.Path.{refl}
 use mathlib.Core.Logic.{inl}
 use native.Mathlib.Omega.{arith}
 use borrow.Author.Needs.{needs}
-use Rattle.counting.proofs.Records.{pass-next}
-use Rattle.counting.proofs.pass_on.Statement.{statement}
-use Rattle.counting.proofs.pass_on.Tie as tie
+use Rattle.pass.proofs.Records.{pass-next}
+use Rattle.pass.proofs.pass_on.Statement.{statement}
+use Rattle.pass.proofs.pass_on.Tie as tie
 
 returns : tie.Need-returns
 returns c k o = inl (λ h. omega (arith, c .if1 .taken), refl)

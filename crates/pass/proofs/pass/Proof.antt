@@ -7,10 +7,10 @@ use denote.Ref.{now}
 use borrow.Author.Needs.{needs}
 use Rattle.reader.proofs.Ground.{grounded-on}
 use Rattle.classes.proofs.Walk.{Walked, walked-start, walked-more, walked-refused, walked-end, next-bounds, next-given, part-from}
-use Rattle.counting.specs.Contracts.{Totals}
-use Rattle.counting.proofs.Records.{totals-none, sum-asked, add-asked, totals-more}
-use Rattle.counting.proofs.pass.Statement.{statement}
-use Rattle.counting.proofs.pass.Tie as tie
+use Rattle.pass.specs.Found.{Totals}
+use Rattle.pass.proofs.Records.{totals-none, sum-asked, add-asked, totals-more}
+use Rattle.pass.proofs.pass.Statement.{statement}
+use Rattle.pass.proofs.pass.Tie as tie
 
 abbrev Inv-loop : tie.InvT-loop
 Inv-loop g list sum₀ tallies₀ at₀ sum tallies at = (at ≤ length list) × Walked g list at (Totals sum tallies)

@@ -1,0 +1,2 @@
+-- What the pass over a list keeps.
+pub mod Records

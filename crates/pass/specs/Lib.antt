@@ -1,0 +1,2 @@
+-- What one pass over a list finds.
+pub mod Found
