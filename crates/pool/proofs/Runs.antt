@@ -1,5 +1,5 @@
 -- A list of calls on a pool in lent memory.
---   pool-of-more, made-more, numbers-of-more    one call more
+--   pool-of-more, made-more, call-numbers-more    one call more
 --   accepted-after         the records that calls leave are accepted
 --   Next n l cs            the first call of a list of valid calls
 --   valid-next             there is one, if the list is not empty
@@ -19,7 +19,7 @@ use Rattle.calls.proofs.Step.{Good}
 use Rattle.calls.proofs.Pairs.{parts-bytes, start, run, adding-by-pairs}
 use Rattle.layout.specs.Layout.{Bytes}
 use Rattle.pool.specs.Held.{Held}
-use Rattle.pool.specs.Run.{Accepted, StepAsked, CallMade, StepMade, left-of, Valid, Holding, RunAsked, numbers-of, Ran, RunMade}
+use Rattle.pool.specs.Run.{Accepted, StepAsked, CallMade, StepMade, left-of, Valid, Holding, RunAsked, call-numbers, Ran, RunMade}
 
 module _ (k : PoolCall) where
   pub pool-of-more : (ks : List PoolCall) (p : List (List ℕ)) → pool-of (ks ++ k ∷ []) p ≡ pool-after k (pool-of ks p)
@@ -30,9 +30,9 @@ module _ (k : PoolCall) where
   made-more c [] p m i = (i, tt)
   made-more c (h ∷ ks) p m i = (m .0, made-more c ks (pool-after h p) (m .1) i)
 
-  pub numbers-of-more : (ks : List PoolCall) → numbers-of (ks ++ k ∷ []) ≡ numbers-of ks ++ (k .i ∷ k .j ∷ length (k .before) ∷ [])
-  numbers-of-more [] = refl
-  numbers-of-more (h ∷ ks) = ap (λ (t : List ℕ). h .i ∷ h .j ∷ length (h .before) ∷ t) (numbers-of-more ks)
+  pub call-numbers-more : (ks : List PoolCall) → call-numbers (ks ++ k ∷ []) ≡ call-numbers ks ++ (k .i ∷ k .j ∷ length (k .before) ∷ [])
+  call-numbers-more [] = refl
+  call-numbers-more (h ∷ ks) = ap (λ (t : List ℕ). h .i ∷ h .j ∷ length (h .before) ∷ t) (call-numbers-more ks)
 
 pub accepted-after : (c : List ℕ) (A : AcceptedCurve c) (s : List ℕ) (n : ℕ) (t : List ℕ) (rs : List (List ℕ)) → Holding c s n t rs
     → (ks : List PoolCall) → Made c rs ks → Accepted c (pool-of ks rs)
@@ -77,7 +77,7 @@ ran-more : (c : List ℕ) (rs : List (List ℕ)) (cs s : List ℕ) (r : ℕ) (i 
     → CallMade c (pool-of (h .calls) rs) i j out s′ r′ → Ran c rs (cs ++ (i ∷ j ∷ length out ∷ [])) s′ r′
 ran-more c rs cs s r i j out s′ r′ h m = record {
   calls = h .calls ++ m .call ∷ [];
-  named = numbers-of-more (m .call) (h .calls) ∙ ap (λ (t : List ℕ). t ++ names (m .call)) (h .named) ∙ ap (λ (t : List ℕ). cs ++ t) same;
+  named = call-numbers-more (m .call) (h .calls) ∙ ap (λ (t : List ℕ). t ++ names (m .call)) (h .named) ∙ ap (λ (t : List ℕ). cs ++ t) same;
   made = made-more (m .call) c (h .calls) rs (h .made) (m .made);
   held = subst (Held s′) (sym (pool-of-more (m .call) (h .calls) rs)) (m .held);
   left = ap length (pool-of-more (m .call) (h .calls) rs) ∙ m .left;

@@ -9,7 +9,7 @@
 --                          buffer, at most l
 --   Holding c s n t rs       s holds the n records rs of the accepted list t
 --   RunAsked c s n cs l    … of some list, and cs are calls on them
---   numbers-of ks          the three numbers of each call
+--   call-numbers ks        the three numbers of each call
 --   Ran c rs cs s′ r       the calls cs are made on rs, and s′ holds the r records that they leave
 --   RunMade c s n cs s′ r  … for the records that s holds, with what document 01 claims of the calls
 use mathlib.Core.Path.{_≡_}
@@ -79,13 +79,13 @@ pub record RunAsked (c s : List ℕ) (n : ℕ) (cs : List ℕ) (l : ℕ) : Type 
   pub given : Holding c s n list records
   pub valid : Valid n l cs
 
-abbrev pub numbers-of : List PoolCall → List ℕ
-numbers-of [] = []
-numbers-of (k ∷ ks) = k .i ∷ k .j ∷ length (k .before) ∷ numbers-of ks
+abbrev pub call-numbers : List PoolCall → List ℕ
+call-numbers [] = []
+call-numbers (k ∷ ks) = k .i ∷ k .j ∷ length (k .before) ∷ call-numbers ks
 
 pub record Ran (c : List ℕ) (rs : List (List ℕ)) (cs s′ : List ℕ) (r : ℕ) : Type 0 where
   pub calls : List PoolCall
-  pub named : numbers-of calls ≡ cs
+  pub named : call-numbers calls ≡ cs
   pub made : Made c rs calls
   pub held : Held s′ (pool-of calls rs)
   pub left : length (pool-of calls rs) ≡ r
