@@ -5,22 +5,18 @@ use mathlib.Core.List.{List}
 use mathlib.Core.Bool.{Bool}
 use Prim.Native.Nat.{ℕ}
 use Rattle.span.specs.Contract.{ClosedAsked, ClosedTest}
-use Rattle.ground.specs.declared.Ground.{Ground}
 use Rattle.basis.specs.declared.Divisor.{Divisor}
 use Rattle.basis.specs.Contract.{Tripled, TripleOf, BasisAsked, BasisTest}
 use Rattle.basis.proofs.Ideal.{triple-closed, triple-open}
 
-module _ {g : Ground} {r : Divisor} {t : List (List ℕ)} {d : List ℕ} (o : TripleOf r t d) where
-  pub closed-asked : BasisAsked g r → ClosedAsked (g .p) (g .cube) t d
-  closed-asked a = record { ready = a .grounded .ready; full = h .full; small = h .small }
+module _ {p : ℕ} {y3 : List ℕ} {r : Divisor} {t : List (List ℕ)} {d : List ℕ} (o : TripleOf r t d) where
+  pub closed-asked : BasisAsked p y3 r → ClosedAsked p y3 t d
+  closed-asked a = record { ready = a .ready; full = h .full; small = h .small }
     where
-      h : Tripled (g .p) (a .kind) r t d
-      h = o .of (g .p) (a .kind) (a .grounded .ready .setting .prime) (a .shaped)
+      h : Tripled p (a .kind) r t d
+      h = o .of p (a .kind) (a .ready .setting .prime) (a .shaped)
 
-  pub basis-test : {b : Bool} → ClosedTest (g .p) (g .cube) t d b → BasisTest g r b
-  basis-test c G κ s =
-      let h = o .of (g .p) κ (G .ready .setting .prime) s in
-      record {
-        holds = λ e. triple-closed h (G .ready .setting) (c .yes-closed e (G .ready));
-        fails = λ e. triple-open h (G .ready) (c .no-closed e (G .ready));
-      }
+  pub basis-test : {b : Bool} → ClosedTest p y3 t d b → BasisTest p y3 r b
+  basis-test c R κ s =
+      let h = o .of p κ (R .setting .prime) s in
+      record { holds = λ e. triple-closed h (R .setting) (c .yes-closed e R); fails = λ e. triple-open h R (c .no-closed e R) }

@@ -17,10 +17,9 @@ use Rattle.divisor.specs.Kind.{Kind, k0, k11, k21, k22, k31, IsBasis}
 use Rattle.divisor.proofs.Table.{degree}
 use Rattle.divisor.proofs.Members.{members}
 use Rattle.vector.specs.Vector.{width, element}
+use Rattle.triple.specs.Setting.{Ready}
 use Rattle.triple.specs.Triple.{Full}
 use Rattle.span.specs.Contract.{Small}
-use Rattle.ground.specs.declared.Ground.{Ground}
-use Rattle.ground.specs.Ground.{Grounded}
 use Rattle.basis.specs.declared.Divisor.{Divisor}
 use Rattle.basis.specs.Divisor.{residues, Shaped}
 
@@ -51,11 +50,10 @@ pub record Tripled (p : ℕ) (κ : Kind) (r : Divisor) (t : List (List ℕ)) (d 
 pub record TripleOf (r : Divisor) (t : List (List ℕ)) (d : List ℕ) : Type 0 where
   pub of : (p : ℕ) (κ : Kind) → Prime p → Shaped p κ r → Tripled p κ r t d
 
-pub record BasisAsked (g : Ground) (r : Divisor) : Type 0 where
-  pub grounded : Grounded g
+pub record BasisAsked (p : ℕ) (y3 : List ℕ) (r : Divisor) : Type 0 where
+  pub ready : Ready p y3
   pub kind : Kind
-  pub shaped : Shaped (g .p) kind r
+  pub shaped : Shaped p kind r
 
-abbrev pub BasisTest : Ground → Divisor → Bool → Type 0
-BasisTest g r b =
-    (G : Grounded g) (κ : Kind) → Shaped (g .p) κ r → Answers (IsBasis (G .ready .setting .curve) κ (residues (g .p) r)) b
+abbrev pub BasisTest : ℕ → List ℕ → Divisor → Bool → Type 0
+BasisTest p y3 r b = (R : Ready p y3) (κ : Kind) → Shaped p κ r → Answers (IsBasis (R .setting .curve) κ (residues p r)) b

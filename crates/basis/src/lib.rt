@@ -1,5 +1,4 @@
 // Divisors by value: the kind and the nine numbers of a record, 0 past the kind's count. Their triples, and the basis test.
-use ground::Ground;
 ghost use mathlib.Core.Path.{_≡_};
 ghost use Prim.Native.Nat.{_<_};
 ghost use Rattle.divisor.specs.Kind.{k0, k11, k21, k22, k31};
@@ -136,13 +135,13 @@ fn triple_31(r: Divisor, t: &mut [[u32; 26]; 3], d: &mut [usize; 3])
     *d = [6, 7, 8];
 }
 
-// Is the record a basis?
-pub fn is_basis(g: Ground, r: Divisor) -> bool
-    requires { ⌜ BasisAsked g r ⌝ }
-    ensures { λ b. ⌜ BasisTest g r b ⌝ }
+// Is the record a basis on the curve of which `cube` is the vector of y³?
+pub fn is_basis(p: u32, cube: &[u32; 26], r: Divisor) -> bool
+    requires { ⌜ BasisAsked p (now cube) r ⌝ }
+    ensures { λ b. ⌜ BasisTest p (now (cube .entry)) r b ⌝ }
 {
     let mut t = [[0u32; 26]; 3];
     let mut d = [0usize; 3];
     triple_of(r, &mut t, &mut d);
-    span::closed(g.p, &g.cube, &t, &d)
+    span::closed(p, cube, &t, &d)
 }

@@ -121,14 +121,14 @@ module _ {g : Ground} (s : List ℕ) (r : Divisor) (v : ValueOf s r) (form : Pas
   shaped : Shaped (g .p) (form .1 .0 .0) r
   shaped = value-shaped (g .p) (G .ready .setting .prime) s r v form below
 
-  pub basis-asked : BasisAsked g r
-  basis-asked = record { grounded = G; kind = form .1 .0 .0; shaped = shaped }
+  pub basis-asked : BasisAsked (g .p) (g .cube) r
+  basis-asked = record { ready = G .ready; kind = form .1 .0 .0; shaped = shaped }
 
-  pub found-no-basis : {b : Bool} → BasisTest g r b → b ≡ false → FirstCause (divisor-stages (g .p) C s) 9
-  found-no-basis t n = refused-9 (g .p) (G .ready .setting .prime) s r v form C below (t G (form .1 .0 .0) shaped .fails n)
+  pub found-no-basis : {b : Bool} → BasisTest (g .p) (g .cube) r b → b ≡ false → FirstCause (divisor-stages (g .p) C s) 9
+  found-no-basis t n = refused-9 (g .p) (G .ready .setting .prime) s r v form C below (t (G .ready) (form .1 .0 .0) shaped .fails n)
 
-  pub found-basis : {b : Bool} → BasisTest g r b → b ≡ true → Bytes s → DivisorGiven (g .p) C s r
-  found-basis t y h = given (g .p) (G .ready .setting .prime) s r v form C below h (t G (form .1 .0 .0) shaped .holds y)
+  pub found-basis : {b : Bool} → BasisTest (g .p) (g .cube) r b → b ≡ true → Bytes s → DivisorGiven (g .p) C s r
+  found-basis t y h = given (g .p) (G .ready .setting .prime) s r v form C below h (t (G .ready) (form .1 .0 .0) shaped .holds y)
 
 -- two divisors, one after the other
 module _ (p : ℕ) (C : Curve (Z p)) (s t : List ℕ) where

@@ -88,7 +88,7 @@ pub fn read_divisor(g: Ground, s: &[u8]) -> DivisorAnswer
     if !checks::all_below(g.p, r) {
         return DivisorAnswer::Refused(8);
     }
-    if !basis::is_basis(g, r) {
+    if !basis::is_basis(g.p, &g.cube, r) {
         return DivisorAnswer::Refused(9);
     }
     DivisorAnswer::Divisor(r)

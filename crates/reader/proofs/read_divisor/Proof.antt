@@ -30,34 +30,34 @@ returns-2 c G =
     let form = c .before .before .before .before .divisor-form .ensures .passes (c .before .before .before .if1 .left) in
     let r = c .before .before .value .result in
     let v = c .before .before .value .ensures in
-    refused-8 (a .g .p) (G .ready .setting .prime) (now (a .s)) r v form (G .ready .setting .curve) (c .before .all-below .ensures .fails (not-true _ (c .if2 .taken)))
+    refused-8 _ (G .ready .setting .prime) (now (a .s)) r v form (G .ready .setting .curve) (c .before .all-below .ensures .fails (not-true _ (c .if2 .taken)))
 
 is-basis-requires : tie.Need-is-basis-requires
 is-basis-requires c κs =
-    let a = c .before .before .before .before .before .before .args in
-    let form = c .before .before .before .before .divisor-form .ensures .passes (c .before .before .before .if1 .left) in
-    let r = c .before .before .value .result in
-    let v = c .before .before .value .ensures in
-    basis-asked (now (a .s)) r v form (c .before .all-below .ensures .holds (not-false _ (c .if2 .left))) (c .before .before .before .before .before .before .pre)
+    let read = c .before .before .before .before in
+    let a = read .before .before .before .before .args in
+    let form = read .before .before .divisor-form .ensures .passes (read .before .if1 .left) in
+    let below = c .before .before .before .all-below .ensures .holds (not-false _ (c .before .before .if2 .left)) in
+    basis-asked (now (a .s)) (read .value .result) (read .value .ensures) form below (read .before .before .before .before .pre)
 
 returns-3 : tie.Need-returns-3
 returns-3 c G =
-    let a = c .before .before .before .before .before .before .before .before .args in
-    let form = c .before .before .before .before .before .before .divisor-form .ensures .passes (c .before .before .before .before .before .if1 .left) in
-    let r = c .before .before .before .before .value .result in
-    let v = c .before .before .before .before .value .ensures in
-    let below = c .before .before .before .all-below .ensures .holds (not-false _ (c .before .before .if2 .left)) in
-    found-no-basis (now (a .s)) r v form below G (c .before .is-basis .ensures) (not-true _ (c .if3 .taken))
+    let tested = c .before .before .before .before in
+    let read = tested .before .before in
+    let a = read .before .before .before .before .args in
+    let form = read .before .before .divisor-form .ensures .passes (read .before .if1 .left) in
+    let below = tested .before .all-below .ensures .holds (not-false _ (tested .if2 .left)) in
+    found-no-basis (now (a .s)) (read .value .result) (read .value .ensures) form below G (c .before .is-basis .ensures) (not-true _ (c .if3 .taken))
 
 returns-4 : tie.Need-returns-4
 returns-4 c G =
-    let a = c .before .before .before .before .before .before .before .before .args in
-    let form = c .before .before .before .before .before .before .divisor-form .ensures .passes (c .before .before .before .before .before .if1 .left) in
-    let r = c .before .before .before .before .value .result in
-    let v = c .before .before .before .before .value .ensures in
-    let below = c .before .before .before .all-below .ensures .holds (not-false _ (c .before .before .if2 .left)) in
-    found-basis (now (a .s)) r v form below G (c .before .is-basis .ensures) (not-false _ (c .if3 .left))
-    (λ i. omega (arith, c .before .before .before .before .before .before .before .shared-slice-known .given i))
+    let tested = c .before .before .before .before in
+    let read = tested .before .before in
+    let a = read .before .before .before .before .args in
+    let form = read .before .before .divisor-form .ensures .passes (read .before .if1 .left) in
+    let below = tested .before .all-below .ensures .holds (not-false _ (tested .if2 .left)) in
+    found-basis (now (a .s)) (read .value .result) (read .value .ensures) form below G (c .before .is-basis .ensures) (not-false _ (c .if3 .left))
+    (λ i. omega (arith, read .before .before .before .shared-slice-known .given i))
 
 pub read-divisor-spec : {M : Type 1} → statement M
 read-divisor-spec =
