@@ -2,7 +2,8 @@
 --   cleared-here, cleared-above    clear takes the number at n away and leaves those above it
 --   Reducing               reduce's invariant: v has no number at a lead from n on
 --   reduce-start, reduce-asked, reduce-clear, reduce-skip, reduce-end
---   at-times-asked, at-reduce-asked        what closed_at asks of times_y and reduce
+--   rest-normal            the rest has no number at a lead, past the vector's end neither
+--   at-times-asked, at-reduce-asked, at-zero-asked    what closed_at asks of times_y, reduce and is_zero
 --   at-yes, at-no, at-test y times a member leaves the rest 0 or not
 --   Closing, closed-start, closed-more, closed-stop, closed-end    the loop of closed
 use mathlib.Core.Path.{_≡_, sym, _∙_, ap, ap₂, subst}
@@ -22,7 +23,7 @@ use Rattle.curve.specs.Curve.{Curve, Coordinate, y}
 use Rattle.curve.specs.Sequence.{coefficient}
 use Rattle.curve.proofs.Term.{coefficient-zero, coefficient-add, coefficient-constant-mul}
 use Rattle.vector.specs.Vector.{Vec, Top, at, res, row, element, x-to, scalar, width}
-use Rattle.vector.specs.Contract.{ClearAsked, Cleared, ZeroTest}
+use Rattle.vector.specs.Contract.{ClearAsked, Cleared, ZeroAsked, ZeroTest}
 use Rattle.multiplication.specs.Contract.{TimesYAsked, TimesY}
 use Rattle.vector.proofs.Monomial.{shift-high}
 use Rattle.vector.proofs.Element.{element-coefficient}
@@ -144,6 +145,13 @@ module _ {p n m : ℕ} {t : List (List ℕ)} {d v v′ : List ℕ} (h : Reducing
 pub reduce-end : {p n : ℕ} {t : List (List ℕ)} {d v v′ : List ℕ} → Reducing p t d v v′ n → n ≡ 0 → Rest p t d v v′
 reduce-end h e = record { vec = h .vec; normal = λ m l r. h .normal m (omega arith) l r; coset = h .coset }
 
+pub rest-normal : {p : ℕ} {t : List (List ℕ)} {d w v : List ℕ} → Rest p t d w v → (n : ℕ) → at d (n % 3) ≤ n → at v n ≡ 0
+rest-normal {v = v} r n b = go (decLt n width)
+  where
+    go : Dec (n < width) → at v n ≡ 0
+    go (yes l) = r .normal n l b
+    go (no l) = List·getD-eq-default v 0 (omega (arith, r .vec .len))
+
 module _ {p j : ℕ} {y3 : List ℕ} {t : List (List ℕ)} {d : List ℕ} (h : AtAsked p y3 t d j) where
   small : at d j ≤ 8
   small = h .closed .small j (h .inside)
@@ -160,6 +168,10 @@ module _ {p j : ℕ} {y3 : List ℕ} {t : List (List ℕ)} {d : List ℕ} (h : A
 
   pub at-reduce-asked : {w : List ℕ} → TimesY p y3 (row t j) (at d j + 1) w → ReduceAsked p t d w (at d j + 5)
   at-reduce-asked a = record { triple = h .closed .full .triple; vec = a .vec; v-top = λ i l. a .top-out i (omega arith); room = omega (arith, small) }
+
+  pub at-zero-asked : {w v : List ℕ} → Rest p t d w v → ZeroAsked v 8
+  at-zero-asked r =
+      record { len = r .vec .len; v-top = λ n l. rest-normal r n (omega (arith, h .closed .small (n % 3) (omega arith))); room = omega arith }
 
 -- y times the j-th member is a vector w, which leaves the rest v
 module _ {p top : ℕ} {y3 : List ℕ} (t : List (List ℕ)) (j : ℕ) {d w v : List ℕ} (a : TimesY p y3 (row t j) top w) (r : Rest p t d w v) where
@@ -181,10 +193,6 @@ module _ {p top : ℕ} {y3 : List ℕ} (t : List (List ℕ)) (j : ℕ) {d w v : 
       nonzero : ¬ (element p (S .curve) v ≡ ring S .zero)
       nonzero e = el-pos p (at v n) k (r .vec .below n) (sym (element-coefficient p (S .curve) (r .vec) n) ∙ ap (coefficient (S .curve) n) e ∙ coefficient-zero (S .curve) n)
 
-      none : (m : ℕ) → at d (m % 3) ≤ m → Dec (m < width) → at v m ≡ 0
-      none m b (yes q) = r .normal m q b
-      none m b (no q) = List·getD-eq-default v 0 (omega (arith, r .vec .len))
-
       go : (s : ring S .Car) × Spanned S t s × (element p (S .curve) w ≡ ring S .add (element p (S .curve) v) s) → Open p y3 t d R
       go (s, i, e) =
           record {
@@ -195,7 +203,7 @@ module _ {p top : ℕ} {y3 : List ℕ} (t : List (List ℕ)) (j : ℕ) {d w v : 
             spanned = i;
             split = sym (a .value (S .curve) (R .cube)) ∙ e;
             nonzero = nonzero;
-            normal = λ m b. element-coefficient p (S .curve) (r .vec) m ∙ ap (el p) (none m b (decLt m width)) ∙ el-zero p;
+            normal = λ m b. element-coefficient p (S .curve) (r .vec) m ∙ ap (el p) (rest-normal r m b) ∙ el-zero p;
           }
 
   pub at-test : {q : Bool} → j < 3 → ZeroTest v q → AtTest p y3 t d j q

@@ -40,7 +40,7 @@ fn closed_at(p: u32, cube: &[u32; 26], t: &[[u32; 26]; 3], d: &[usize; 3], j: us
     let e = d[j];
     let mut v = multiplication::times_y(p, cube, &t[j], e + 1);
     reduce(p, t, d, &mut v, e + 5);
-    vector::is_zero(&v)
+    vector::is_zero(&v, 8)
 }
 
 // The triple (t, d) becomes that of the product of two triples' spans. The products with the second triple's member of

@@ -24,7 +24,7 @@ use Rattle.field.specs.Contract.{Is}
 use Rattle.field.proofs.Invert.{lt-of-ne}
 use Rattle.ideal.specs.Poles.{IsGap}
 use Rattle.vector.specs.Vector.{Vec, at, res, width}
-use Rattle.vector.specs.Contract.{AxpyAsked, Added, ScaleAsked, Scaled, total, pairing, ZeroTest}
+use Rattle.vector.specs.Contract.{AxpyAsked, Added, ScaleAsked, Scaled, total, pairing, ZeroAsked, ZeroTest}
 
 pub gap-zero : {p : ℕ} {v : List ℕ} → Vec p v → (n : ℕ) → IsGap n → at v n ≡ 0
 gap-zero {v = v} h n (inl e) = ap (at v) e ∙ h .gap-1
@@ -192,13 +192,13 @@ seen-more v i s e k l = go (ℕ-discrete k i)
     go (yes d) = ap (at v) d ∙ e
     go (no d) = s k (omega arith)
 
-pub zero-test-true : (v : List ℕ) (i : ℕ) → length v ≤ i → ((k : ℕ) → k < i → at v k ≡ 0) → ZeroTest v true
-zero-test-true v i l s =
+pub zero-test-true : (v : List ℕ) (top i : ℕ) → ZeroAsked v top → top ≤ i → ((k : ℕ) → k < i → at v k ≡ 0) → ZeroTest v true
+zero-test-true v top i a l s =
     record { zero-vector = λ e n h. go n (decLt n i); nonzero = λ e. let z : _≡_ {A = ℕ} 0 1 = cc in absurd (omega arith) }
   where
     go : (n : ℕ) → Dec (n < i) → at v n ≡ 0
     go n (yes h) = s n h
-    go n (no h) = List·getD-eq-default v 0 (omega arith)
+    go n (no h) = a .v-top n (omega arith)
 
 pub zero-test-false : (v : List ℕ) (i : ℕ) → i < 26 → ¬ (at v i ≡ 0) → ZeroTest v false
 zero-test-false v i l n =

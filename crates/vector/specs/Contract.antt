@@ -4,12 +4,13 @@
 --   MonicAsked, MadeMonic     make_monic: v over its lead
 --   DotAsked, pairing         dot: the sum of a[n]·b[n − s]
 --   total R f n               the sum of f 0, …, f (n − 1)
---   ZeroTest                  is_zero: is v zero
+--   ZeroAsked, ZeroTest       is_zero: is v zero
 --   ScaleAsked, Scaled        scale: c·v[i] at the place i, for each i below e
 use mathlib.Core.Path.{_≡_}
 use mathlib.Core.Bool.{Bool, true, false}
 use mathlib.Core.List.{List}
 use Prim.Native.Nat.{ℕ, zero, suc, _+_, _-_, _/_, _%_, _<_, _≤_}
+use lib.ListN.{length}
 use Rattle.algebra.specs.Ring.{CommRing}
 use Rattle.prime.specs.Prime.{Prime}
 use Rattle.field.specs.Residue.{Z, el}
@@ -73,6 +74,11 @@ total R f (suc n) = R .add (f n) (total R f n)
 
 abbrev pub pairing : (p : ℕ) → List ℕ → List ℕ → ℕ → ℕ → ℕ → Z p .Car
 pairing p a b s from to = total (Z p) (λ i. Z p .mul (res p a (from + i)) (res p b (from + i - s))) (to - from)
+
+pub record ZeroAsked (v : List ℕ) (top : ℕ) : Type 0 where
+  pub len : length v ≡ width
+  pub v-top : Top v top
+  pub room : top ≤ width
 
 pub record ZeroTest (v : List ℕ) (r : Bool) : Type 0 where
   pub zero-vector : r ≡ true → Top v 0

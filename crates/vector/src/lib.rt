@@ -1,10 +1,7 @@
 // Vectors of residues modulo p, indexed by pole number. A vector is 26 numbers below p, 0 at the places 1, 2 and 5.
 // The vector that a loop works on is lent, and loops end at the degree.
-ghost use mathlib.Core.Path.{_≡_};
-ghost use lib.ListN.{length};
 ghost use Rattle.field.specs.Contract.{Is};
-ghost use Rattle.vector.specs.Vector.{width};
-ghost use Rattle.vector.specs.Contract.{AxpyAsked, Added, ClearAsked, Cleared, MonicAsked, MadeMonic, DotAsked, pairing, ZeroTest, ScaleAsked, Scaled};
+ghost use Rattle.vector.specs.Contract.{AxpyAsked, Added, ClearAsked, Cleared, MonicAsked, MadeMonic, DotAsked, pairing, ZeroAsked, ZeroTest, ScaleAsked, Scaled};
 
 // c·x^(s/3)·b added to r, for b below e.
 pub fn axpy(p: u32, r: &mut [u32; 26], c: u32, b: &[u32; 26], s: usize, e: usize)
@@ -64,13 +61,13 @@ pub fn dot(p: u32, a: &[u32; 26], b: &[u32; 26], s: usize, from: usize, to: usiz
     r
 }
 
-// Is v zero?
-pub fn is_zero(v: &[u32; 26]) -> bool
-    requires { ⌜ length (now v) ≡ width ⌝ }
+// Is v, which is below top, zero?
+pub fn is_zero(v: &[u32; 26], top: usize) -> bool
+    requires { ⌜ ZeroAsked (now v) top ⌝ }
     ensures { λ r. ⌜ ZeroTest (now (v .entry)) r ⌝ }
 {
     let mut i = 0;
-    while i < 26 {
+    while i < top {
         if v[i] != 0 {
             return false;
         }

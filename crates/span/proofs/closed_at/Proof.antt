@@ -1,7 +1,7 @@
 -- `span::closed_at` meets its contract, by `at-test` of proofs/Reduction.
 use native.Mathlib.Omega.{arith}
 use borrow.Author.Needs.{needs}
-use Rattle.span.proofs.Reduction.{at-times-asked, at-reduce-asked, at-test}
+use Rattle.span.proofs.Reduction.{at-times-asked, at-reduce-asked, at-zero-asked, at-test}
 use Rattle.span.proofs.closed_at.Statement.{statement}
 use Rattle.span.proofs.closed_at.Tie as tie
 
@@ -30,7 +30,7 @@ reduce-requires : tie.Need-reduce-requires
 reduce-requires c κs = at-reduce-asked (c .before .before .before .before .pre) (c .before .times-y .ensures)
 
 is-zero-requires : tie.Need-is-zero-requires
-is-zero-requires c κs = search needs
+is-zero-requires c κs = at-zero-asked (c .before .before .before .before .before .before .pre) (c .before .reduce .ensures)
 
 returns : tie.Need-returns
 returns c =

@@ -1,4 +1,4 @@
--- `vector::is_zero` meets its contract. The loop's invariant: the numbers below i are 0; its measure: 26 − i.
+-- `vector::is_zero` meets its contract. The loop's invariant: the numbers below i are 0; its measure: top − i.
 use mathlib.Core.Path.{_≡_}
 use Prim.Native.Nat.{ℕ, _≤_, _<_, _-_}
 use native.Mathlib.Omega.{arith}
@@ -9,10 +9,10 @@ use Rattle.vector.proofs.is_zero.Statement.{statement}
 use Rattle.vector.proofs.is_zero.Tie as tie
 
 abbrev Inv-loop : tie.InvT-loop
-Inv-loop v i₀ i = (i ≤ 26) × ((k : ℕ) → k < i → at v k ≡ 0)
+Inv-loop v top i₀ i = (i ≤ top) × ((k : ℕ) → k < i → at v k ≡ 0)
 
 abbrev μ-loop : tie.MeasureT-loop
-μ-loop v i₀ i = 26 - i
+μ-loop v top i₀ i = top - i
 
 loop-holds : tie.Need-loop-holds Inv-loop μ-loop
 loop-holds c = search needs
@@ -36,7 +36,7 @@ loop-again : tie.Need-loop-again Inv-loop μ-loop
 loop-again c = (omega arith, seen-more (c .before .before .before .before .args .v .now) _ (c .before .before .before .loop .inv .1) (c .if1 .left))
 
 returns-2 : tie.Need-returns-2 Inv-loop μ-loop
-returns-2 c = zero-test-true _ _ (omega arith) (c .before .loop .inv .1)
+returns-2 c = zero-test-true _ _ _ (c .before .before .pre) (omega arith) (c .before .loop .inv .1)
 
 pub is-zero-spec : {M : Type 1} → statement M
 is-zero-spec =
