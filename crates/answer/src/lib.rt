@@ -4,35 +4,7 @@ use classes::TallyAnswer;
 use reader::CurveAnswer;
 use reader::DivisorAnswer;
 use reader::TwoAnswer;
-ghost use mathlib.Core.Path.{_≡_};
-ghost use Rattle.calls.specs.Answer.{minus};
 ghost use Rattle.calls.specs.Call.{CheckCurve, CheckDivisor, Sum, Double, Negative, Multiple, ListSum, Compare, Count};
-ghost use Rattle.answer.specs.Written.{Writable, Wrote};
-
-// What a call returns for the refusal n.
-pub fn refusal(n: u8) -> i32
-    ensures { λ r. ⌜ r ≡ minus n ⌝ }
-{
-    0 - (n as i32)
-}
-
-// Writes the record of a divisor that was found at the start of `out`, and returns its length; refuses a buffer that is too short, and what was
-// refused before.
-pub fn written(found: DivisorAnswer, out: &mut [u8]) -> i32
-    requires { ⌜ Writable found ⌝ }
-    ensures { λ r. ⌜ Wrote found (now (out .entry)) r (now (out .exit)) ⌝ }
-{
-    match found {
-        DivisorAnswer::Divisor(x) => {
-            if out.len() < reader::ROOM {
-                return refusal(10);
-            }
-            let n = reader::write_divisor(x, out);
-            n as i32
-        }
-        DivisorAnswer::Refused(n) => refusal(n),
-    }
-}
 
 // 1 for an accepted curve.
 pub fn check_curve(curve: &[u8]) -> i32
@@ -41,7 +13,7 @@ pub fn check_curve(curve: &[u8]) -> i32
     let read = reader::read_curve(curve);
     match read {
         CurveAnswer::Curve(_) => 1,
-        CurveAnswer::Refused(n) => refusal(n),
+        CurveAnswer::Refused(n) => reply::refusal(n),
     }
 }
 
@@ -56,10 +28,10 @@ pub fn check_divisor(curve: &[u8], divisor: &[u8]) -> i32
             let next = reader::read_divisor(g, divisor);
             match next {
                 DivisorAnswer::Divisor(_) => 1,
-                DivisorAnswer::Refused(n) => refusal(n),
+                DivisorAnswer::Refused(n) => reply::refusal(n),
             }
         }
-        CurveAnswer::Refused(n) => refusal(n),
+        CurveAnswer::Refused(n) => reply::refusal(n),
     }
 }
 
@@ -72,9 +44,9 @@ pub fn sum(curve: &[u8], a: &[u8], b: &[u8], out: &mut [u8]) -> i32
         CurveAnswer::Curve(e) => {
             let g = ground::of(e);
             let found = classes::sum_on(g, a, b);
-            written(found, out)
+            reply::written(found, out)
         }
-        CurveAnswer::Refused(n) => refusal(n),
+        CurveAnswer::Refused(n) => reply::refusal(n),
     }
 }
 
@@ -87,9 +59,9 @@ pub fn double(curve: &[u8], a: &[u8], out: &mut [u8]) -> i32
         CurveAnswer::Curve(e) => {
             let g = ground::of(e);
             let found = classes::double_on(g, a);
-            written(found, out)
+            reply::written(found, out)
         }
-        CurveAnswer::Refused(n) => refusal(n),
+        CurveAnswer::Refused(n) => reply::refusal(n),
     }
 }
 
@@ -102,9 +74,9 @@ pub fn negative(curve: &[u8], a: &[u8], out: &mut [u8]) -> i32
         CurveAnswer::Curve(e) => {
             let g = ground::of(e);
             let found = classes::negative_on(g, a);
-            written(found, out)
+            reply::written(found, out)
         }
-        CurveAnswer::Refused(n) => refusal(n),
+        CurveAnswer::Refused(n) => reply::refusal(n),
     }
 }
 
@@ -117,9 +89,9 @@ pub fn multiple(curve: &[u8], a: &[u8], n: i64, out: &mut [u8]) -> i32
         CurveAnswer::Curve(e) => {
             let g = ground::of(e);
             let found = classes::multiple_on(g, a, n);
-            written(found, out)
+            reply::written(found, out)
         }
-        CurveAnswer::Refused(n) => refusal(n),
+        CurveAnswer::Refused(n) => reply::refusal(n),
     }
 }
 
@@ -132,9 +104,9 @@ pub fn list_sum(curve: &[u8], list: &[u8], out: &mut [u8]) -> i32
         CurveAnswer::Curve(e) => {
             let g = ground::of(e);
             let found = classes::list_sum_on(g, list);
-            written(found, out)
+            reply::written(found, out)
         }
-        CurveAnswer::Refused(n) => refusal(n),
+        CurveAnswer::Refused(n) => reply::refusal(n),
     }
 }
 
@@ -149,10 +121,10 @@ pub fn compare(curve: &[u8], a: &[u8], b: &[u8]) -> i32
             let next = reader::read_two(g, a, b);
             match next {
                 TwoAnswer::Two(_, _) => { if layout::same_bytes(a, b) { 1 } else { 0 } }
-                TwoAnswer::Refused(n) => refusal(n),
+                TwoAnswer::Refused(n) => reply::refusal(n),
             }
         }
-        CurveAnswer::Refused(n) => refusal(n),
+        CurveAnswer::Refused(n) => reply::refusal(n),
     }
 }
 
@@ -167,9 +139,9 @@ pub fn count(curve: &[u8], list: &[u8], kind: u32) -> i32
             let found = classes::count_on(g, list, kind);
             match found {
                 TallyAnswer::Count(n) => n as i32,
-                TallyAnswer::Refused(n) => refusal(n),
+                TallyAnswer::Refused(n) => reply::refusal(n),
             }
         }
-        CurveAnswer::Refused(n) => refusal(n),
+        CurveAnswer::Refused(n) => reply::refusal(n),
     }
 }

@@ -2,6 +2,7 @@
 --   ground-asked, on   an accepted curve has a ground
 --   ground-at, ground-is, grounded-at, grounded-on      it is the ground of the curve of the bytes
 --   at-curve           what holds at the ground holds of the curve of the bytes
+--   curve-passes, curve-asked, curve-on, curve-cause     what read_curve found: an accepted curve and its ground, or the cause
 use mathlib.Core.Path.{_≡_, refl, sym, ap, subst}
 use mathlib.Core.List.{List}
 use Prim.Native.Nat.{ℕ, _<_}
@@ -12,9 +13,12 @@ use Rattle.equation.specs.Equation.{Coefficients}
 use Rattle.equation.specs.declared.Equation.{Equation}
 use Rattle.ground.specs.declared.Ground.{Ground}
 use Rattle.ground.specs.Ground.{Unit-of, Grounded, AtGround, GroundAsked, GroundOf}
-use Rattle.record.specs.Curve.{modulus, equation, AcceptedCurve, accepted-prime, accepted-below, setting-of}
+use Rattle.record.specs.Cause.{FirstCause, Passes}
+use Rattle.record.specs.Curve.{modulus, equation, curve-stages, AcceptedCurve, accepted-prime, accepted-below, setting-of}
 use Rattle.checks.specs.Contract.{equation-value}
-use Rattle.reader.specs.Reading.{On}
+use Rattle.reader.specs.Reading.{CurveRead, On}
+use Rattle.reader.specs.declared.CurveAnswer.{CurveAnswer}
+use Rattle.reader.specs.declared.CurveAnswer.the-variants as curve
 use Rattle.reader.proofs.CurveReader.{curve-value, below-coefficients, coefficient-at}
 
 module _ (c : List ℕ) (A : AcceptedCurve c) where
@@ -57,3 +61,20 @@ module _ {c : List ℕ} {g : Ground} (o : On c g) where
 
   pub at-curve : (X : (p : ℕ) → Curve (Z p) → Type 0) → AtGround g X → X (modulus c) (equation c)
   at-curve X h = subst (λ (k : Ground). AtGround k X) ground-is h grounded-at
+
+module _ (c : List ℕ) (r : CurveAnswer) (h : CurveRead c r) where
+  module _ (e : Equation) (q : r ≡ curve.Curve e) where
+    given : CurveRead c (curve.Curve e)
+    given = subst (CurveRead c) q h
+
+    pub curve-passes : Passes (curve-stages c)
+    curve-passes = given .0
+
+    pub curve-asked : GroundAsked e
+    curve-asked = ground-asked c (given .0) e (given .1)
+
+    pub curve-on : (g : Ground) → GroundOf e g → On c g
+    curve-on g k = on c (given .0) e (given .1) g k
+
+  pub curve-cause : (n : ℕ) → r ≡ curve.Refused n → FirstCause (curve-stages c) n
+  curve-cause n q = subst (CurveRead c) q h

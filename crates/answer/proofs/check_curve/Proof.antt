@@ -3,8 +3,8 @@ use borrow.Author.Needs.{needs}
 use mathlib.Core.Path.{refl, _∙_}
 use denote.Ref.{now}
 use Rattle.calls.specs.Answer.{refused, answered}
-use Rattle.answer.proofs.Curve.{curve-passes, curve-cause}
-use Rattle.answer.proofs.Number.{kept}
+use Rattle.reader.proofs.Ground.{curve-passes, curve-cause}
+use Rattle.reply.proofs.Number.{kept}
 use Rattle.answer.proofs.check_curve.Statement.{statement}
 use Rattle.answer.proofs.check_curve.Tie as tie
 

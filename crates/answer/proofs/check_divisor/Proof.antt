@@ -6,8 +6,9 @@ use Rattle.record.specs.Curve.{curve-stages}
 use Rattle.calls.specs.Answer.{refused, answered}
 use Rattle.reader.proofs.Ground.{grounded-on}
 use Rattle.classes.proofs.Read.{read-given, read-refused}
-use Rattle.answer.proofs.Curve.{curve-passes, curve-asked, curve-on, curve-cause, returns-after, returns-curve}
-use Rattle.answer.proofs.Number.{kept}
+use Rattle.reader.proofs.Ground.{curve-passes, curve-asked, curve-on, curve-cause}
+use Rattle.answer.proofs.Curve.{returns-after, returns-curve}
+use Rattle.reply.proofs.Number.{kept}
 use Rattle.answer.proofs.check_divisor.Statement.{statement}
 use Rattle.answer.proofs.check_divisor.Tie as tie
 

@@ -9,8 +9,9 @@ use Rattle.record.proofs.Cause.{passes-append}
 use Rattle.reader.proofs.Ground.{grounded-on}
 use Rattle.calls.specs.Call.{divisor-of}
 use Rattle.classes.proofs.Read.{pair-given, pair-refused}
-use Rattle.answer.proofs.Curve.{curve-passes, curve-asked, curve-on, curve-cause, returns-after, returns-curve}
-use Rattle.answer.proofs.Number.{kept}
+use Rattle.reader.proofs.Ground.{curve-passes, curve-asked, curve-on, curve-cause}
+use Rattle.answer.proofs.Curve.{returns-after, returns-curve}
+use Rattle.reply.proofs.Number.{kept}
 use Rattle.answer.proofs.compare.Statement.{statement}
 use Rattle.answer.proofs.compare.Tie as tie
 

@@ -7,9 +7,10 @@ use denote.Ref.{now}
 use Rattle.record.specs.Curve.{curve-stages}
 use Rattle.calls.specs.Answer.{refused, answered}
 use Rattle.calls.specs.Call.{list-of}
-use Rattle.answer.proofs.Number.{pos-number, kept}
+use Rattle.reply.proofs.Number.{pos-number, kept}
 use Rattle.answer.proofs.Write.{tally-given, tally-refused}
-use Rattle.answer.proofs.Curve.{curve-passes, curve-asked, curve-on, curve-cause, returns-after, returns-curve}
+use Rattle.reader.proofs.Ground.{curve-passes, curve-asked, curve-on, curve-cause}
+use Rattle.answer.proofs.Curve.{returns-after, returns-curve}
 use Rattle.answer.proofs.count.Statement.{statement}
 use Rattle.answer.proofs.count.Tie as tie
 

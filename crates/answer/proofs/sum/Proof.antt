@@ -6,9 +6,10 @@ use Rattle.record.specs.Curve.{curve-stages}
 use mathlib.Core.List.{_++_}
 use Rattle.calls.specs.Call.{divisor-of}
 use Rattle.calls.specs.Class.{IsSum}
-use Rattle.answer.proofs.Curve.{curve-passes, curve-asked, curve-on, curve-cause, writes-curve}
+use Rattle.reader.proofs.Ground.{curve-passes, curve-asked, curve-on, curve-cause}
+use Rattle.answer.proofs.Curve.{writes-curve}
 use Rattle.answer.proofs.Write.{writable, writes-found}
-use Rattle.answer.proofs.Number.{kept}
+use Rattle.reply.proofs.Number.{kept}
 use Rattle.answer.proofs.sum.Statement.{statement}
 use Rattle.answer.proofs.sum.Tie as tie
 

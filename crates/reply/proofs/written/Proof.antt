@@ -3,10 +3,10 @@ use borrow.Author.Needs.{needs}
 use mathlib.Core.Path.{refl, _∙_}
 use native.Mathlib.Omega.{arith}
 use Rattle.reader.specs.declared.DivisorAnswer.the-variants as answer
-use Rattle.answer.proofs.Write.{write-asked, write-fits, wrote, wrote-answer, known}
-use Rattle.answer.proofs.Number.{kept}
-use Rattle.answer.proofs.written.Statement.{statement}
-use Rattle.answer.proofs.written.Tie as tie
+use Rattle.reply.proofs.Write.{write-asked, write-fits, wrote, wrote-answer, known}
+use Rattle.reply.proofs.Number.{kept}
+use Rattle.reply.proofs.written.Statement.{statement}
+use Rattle.reply.proofs.written.Tie as tie
 
 enum-known-found : tie.Need-enum-known-found
 enum-known-found c = search needs

@@ -4,9 +4,9 @@ use lib.IntN.{ℤ, pos, _-ℤ_}
 use mir.Facts.{toZ-ofZ}
 use native.Mathlib.Omega.{arith}
 use borrow.Author.Needs.{needs}
-use Rattle.answer.proofs.Number.{minus-negative, minus-fits, pos-number}
-use Rattle.answer.proofs.refusal.Statement.{statement}
-use Rattle.answer.proofs.refusal.Tie as tie
+use Rattle.reply.proofs.Number.{minus-negative, minus-fits, pos-number}
+use Rattle.reply.proofs.refusal.Statement.{statement}
+use Rattle.reply.proofs.refusal.Tie as tie
 
 cast-result : tie.Need-cast-result
 cast-result c = search needs
