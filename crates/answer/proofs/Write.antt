@@ -18,9 +18,10 @@ use Rattle.reader.specs.declared.DivisorAnswer.the-variants as answer
 use Rattle.record.proofs.Cause.{first-append, passes-append}
 use Rattle.calls.specs.Answer.{Writes, refused, written}
 use Rattle.calls.specs.Call.{room, buffer, tally}
-use Rattle.classes.specs.Found.{Found, TallyFound}
-use Rattle.classes.specs.declared.TallyAnswer.{TallyAnswer}
-use Rattle.classes.specs.declared.TallyAnswer.the-variants as count
+use Rattle.classes.specs.Found.{Found}
+use Rattle.lists.specs.Totals.{TallyFound}
+use Rattle.lists.specs.declared.TallyAnswer.{TallyAnswer}
+use Rattle.lists.specs.declared.TallyAnswer.the-variants as count
 use Rattle.reply.specs.Written.{Writable, Wrote}
 use Rattle.answer.proofs.Curve.{writes-after}
 

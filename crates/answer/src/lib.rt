@@ -1,6 +1,6 @@
 // The nine calls. Each reads the curve, makes its ground, has the work done on it, and returns what the call is for or minus the number of the
 // first cause of refusal.
-use classes::TallyAnswer;
+use lists::TallyAnswer;
 use reader::CurveAnswer;
 use reader::DivisorAnswer;
 use reader::TwoAnswer;
@@ -103,7 +103,7 @@ pub fn list_sum(curve: &[u8], list: &[u8], out: &mut [u8]) -> i32
     match read {
         CurveAnswer::Curve(e) => {
             let g = ground::of(e);
-            let found = classes::list_sum_on(g, list);
+            let found = lists::list_sum_on(g, list);
             reply::written(found, out)
         }
         CurveAnswer::Refused(n) => reply::refusal(n),
@@ -136,7 +136,7 @@ pub fn count(curve: &[u8], list: &[u8], kind: u32) -> i32
     match read {
         CurveAnswer::Curve(e) => {
             let g = ground::of(e);
-            let found = classes::count_on(g, list, kind);
+            let found = lists::count_on(g, list, kind);
             match found {
                 TallyAnswer::Count(n) => n as i32,
                 TallyAnswer::Refused(n) => reply::refusal(n),

@@ -2,5 +2,3 @@
 pub mod Values
 pub mod Read
 pub mod Multiple
-pub mod Walk
-pub mod Lists

@@ -2,15 +2,13 @@
 --   read-given, read-refused   one divisor
 --   pair-given, pair-refused   two divisors
 --   found-one, found-two       the result, where they are accepted
---   found-next, tally-next     one stage before others
 use mathlib.Core.Path.{_≡_, subst}
-use mathlib.Core.Logic.{inr}
-use mathlib.Core.List.{List, _∷_, _++_}
+use mathlib.Core.List.{List, _++_}
 use Prim.Native.Nat.{ℕ}
 use Rattle.ground.specs.declared.Ground.{Ground}
 use Rattle.ground.specs.Ground.{AtGround}
 use Rattle.basis.specs.declared.Divisor.{Divisor}
-use Rattle.record.specs.Cause.{Stage, FirstCause}
+use Rattle.record.specs.Cause.{FirstCause}
 use Rattle.record.specs.Curve.{modulus, equation}
 use Rattle.reader.specs.Reading.{On, GivenOn, DivisorRead, TwoRead}
 use Rattle.reader.specs.declared.DivisorAnswer.{DivisorAnswer}
@@ -20,9 +18,7 @@ use Rattle.reader.specs.declared.TwoAnswer.the-variants as two
 use Rattle.record.proofs.Cause.{passes-append}
 use Rattle.reader.proofs.Ground.{at-curve}
 use Rattle.calls.specs.Call.{divisor-of}
-use Rattle.classes.specs.Found.{Found, TallyFound}
-use Rattle.classes.specs.declared.TallyAnswer.{TallyAnswer}
-use Rattle.classes.specs.declared.TallyAnswer.the-variants as count
+use Rattle.classes.specs.Found.{Found}
 
 module _ {c : List ℕ} {g : Ground} (o : On c g) (a : List ℕ) where
   module _ (d : DivisorAnswer) (h : AtGround g (λ p C. DivisorRead p C a d)) where
@@ -52,13 +48,3 @@ module _ (c a : List ℕ) {Good : List ℕ → Type 0} {r : Divisor} where
   pub found-two : (b : List ℕ) {x y : Divisor} → GivenOn c a x × GivenOn c b y → (w : List ℕ) × Good w × GivenOn c w r
       → Found c (divisor-of c a ++ divisor-of c b) Good (answer.Divisor r)
   found-two b v s = (passes-append (divisor-of c a) (divisor-of c b) .1 (v .0 .accepted, v .1 .accepted), s)
-
--- one stage before others
-module _ (c : List ℕ) (s : Stage) (ss : List Stage) (p : s .passed) where
-  pub found-next : (Good : List ℕ → Type 0) (r : DivisorAnswer) → Found c ss Good r → Found c (s ∷ ss) Good r
-  found-next Good (answer.Divisor x) f = ((p, f .0), f .1)
-  found-next Good (answer.Refused n) f = inr (p, f)
-
-  pub tally-next : (l : List ℕ) (kind : ℕ) (r : TallyAnswer) → TallyFound c ss l kind r → TallyFound c (s ∷ ss) l kind r
-  tally-next l kind (count.Count n) f = ((p, f .0), f .1)
-  tally-next l kind (count.Refused n) f = inr (p, f)

@@ -17,8 +17,8 @@ use Rattle.record.specs.Listed.{list-limit}
 use Rattle.reader.specs.Reading.{On, GivenOn}
 use Rattle.record.proofs.Lists.{listed-short}
 use Rattle.classes.specs.Found.{Curved}
-use Rattle.classes.proofs.Walk.{Walked, More}
-use Rattle.classes.proofs.Lists.{summed-none, summed-asked, summed-more}
+use Rattle.lists.proofs.Walk.{Walked, More}
+use Rattle.lists.proofs.Lists.{summed-none, summed-asked, summed-more}
 use Rattle.tallies.specs.declared.Tallies.{Tallies}
 use Rattle.tallies.specs.Tallied.{TalliesOf, Bounded, AddedTo}
 use Rattle.tallies.proofs.More.{tallies-bounded, record-given}

@@ -4,7 +4,7 @@ use mathlib.Core.Path.{refl, _∙_}
 use denote.Ref.{now}
 use Rattle.record.specs.Curve.{curve-stages}
 use Rattle.calls.specs.Call.{list-of}
-use Rattle.classes.specs.Found.{SumOfList}
+use Rattle.lists.specs.Totals.{SumOfList}
 use Rattle.reader.proofs.Ground.{curve-passes, curve-asked, curve-on, curve-cause}
 use Rattle.answer.proofs.Curve.{writes-curve}
 use Rattle.answer.proofs.Write.{writable, writes-found}

@@ -6,7 +6,7 @@ use lib.ListN.{length}
 use denote.Ref.{now}
 use borrow.Author.Needs.{needs}
 use Rattle.reader.proofs.Ground.{grounded-on}
-use Rattle.classes.proofs.Walk.{Walked, walked-start, walked-more, walked-refused, walked-end, next-bounds, next-given, part-from}
+use Rattle.lists.proofs.Walk.{Walked, walked-start, walked-more, walked-refused, walked-end, next-bounds, next-given, part-from}
 use Rattle.pass.specs.Found.{Totals}
 use Rattle.pass.proofs.Records.{totals-none, sum-asked, add-asked, totals-more}
 use Rattle.pass.proofs.pass.Statement.{statement}

@@ -3,9 +3,9 @@ use mathlib.Core.Path.{refl}
 use mathlib.Core.Logic.{inl}
 use native.Mathlib.Omega.{arith}
 use borrow.Author.Needs.{needs}
-use Rattle.classes.proofs.Read.{tally-next}
-use Rattle.classes.proofs.count_on.Statement.{statement}
-use Rattle.classes.proofs.count_on.Tie as tie
+use Rattle.lists.proofs.Next.{tally-next}
+use Rattle.lists.proofs.count_on.Statement.{statement}
+use Rattle.lists.proofs.count_on.Tie as tie
 
 returns : tie.Need-returns
 returns c k o = inl (λ h. omega (arith, c .if1 .taken), refl)

@@ -6,10 +6,10 @@ use lib.ListN.{length}
 use denote.Ref.{now}
 use borrow.Author.Needs.{needs}
 use Rattle.reader.proofs.Ground.{grounded-on}
-use Rattle.classes.proofs.Walk.{Walked, walked-start, walked-more, walked-refused, walked-end, next-bounds, next-given, part-from}
-use Rattle.classes.proofs.Lists.{Summed, summed-none, summed-asked, summed-more}
-use Rattle.classes.proofs.total.Statement.{statement}
-use Rattle.classes.proofs.total.Tie as tie
+use Rattle.lists.proofs.Walk.{Walked, walked-start, walked-more, walked-refused, walked-end, next-bounds, next-given, part-from}
+use Rattle.lists.proofs.Lists.{Summed, summed-none, summed-asked, summed-more}
+use Rattle.lists.proofs.total.Statement.{statement}
+use Rattle.lists.proofs.total.Tie as tie
 
 abbrev Inv-loop : tie.InvT-loop
 Inv-loop g list sum₀ at₀ sum at = (at ≤ length list) × Walked g list at (Summed sum)

@@ -28,8 +28,8 @@ use Rattle.calls.specs.Call.{tally, one-if}
 use Rattle.calls.specs.Class.{zero-record, IsListSum}
 use Rattle.calls.proofs.Class.{zero-accepted}
 use Rattle.calls.proofs.Multiples.{list-more}
 use Rattle.classes.proofs.Values.{given-record, sum-made, two-asked}
-use Rattle.classes.proofs.Walk.{More}
+use Rattle.lists.proofs.Walk.{More}
 
 abbrev pub Summed : Divisor → (c : List ℕ) → List (List ℕ) → Type 0
 Summed x c rs = (w : List ℕ) × IsListSum c rs w × GivenOn c w x

@@ -7,10 +7,10 @@ use lib.ListN.{length}
 use denote.Ref.{now}
 use borrow.Author.Needs.{needs}
 use Rattle.reader.proofs.Ground.{grounded-on}
-use Rattle.classes.proofs.Walk.{Walked, walked-start, walked-more, walked-refused, walked-end, next-bounds, part-from}
-use Rattle.classes.proofs.Lists.{Tallied, tallied-yes, tallied-no}
-use Rattle.classes.proofs.tally.Statement.{statement}
-use Rattle.classes.proofs.tally.Tie as tie
+use Rattle.lists.proofs.Walk.{Walked, walked-start, walked-more, walked-refused, walked-end, next-bounds, part-from}
+use Rattle.lists.proofs.Lists.{Tallied, tallied-yes, tallied-no}
+use Rattle.lists.proofs.tally.Statement.{statement}
+use Rattle.lists.proofs.tally.Tie as tie
 
 abbrev Inv-loop : tie.InvT-loop
 Inv-loop g list kind count₀ at₀ count at = (at ≤ length list) × (count ≤ at) × Walked g list at (Tallied kind count)

@@ -1,0 +1,2 @@
+-- What is found of a list.
+pub mod Totals
