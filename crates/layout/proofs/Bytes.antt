@@ -1,9 +1,8 @@
--- The bytes of numbers: how many there are, that they are bytes, and how they are put together.
+-- The bytes of numbers: how many there are, and that they are bytes.
 --   length-bytes2, length-bytes4, length-all-bytes4, length-record    how many
 --   bytes-nil, bytes-cons, bytes-append, bytes-take, bytes-drop, bytes-bytes2, bytes-bytes4, bytes-all-bytes4, bytes-record    all below 256
---   all-bytes4-append, all-bytes4-one    the bytes of two runs of numbers, and of one number
-use mathlib.Core.Path.{_≡_, refl, sym, ap, _∙_}
-use mathlib.Core.List.{List, [], _∷_, _++_, append-assoc, append-nil}
+use mathlib.Core.Path.{_≡_, refl}
+use mathlib.Core.List.{List, [], _∷_, _++_}
 use Prim.Native.Nat.{ℕ, zero, suc, _+_, _*_, _<_}
 use native.Mathlib.Omega.{arith}
 use lib.ListN.{length, take, drop, length-append}
@@ -27,15 +26,6 @@ pub length-record : (kind : ℕ) (ns : List ℕ) → length (record-bytes kind n
 unfolding record-bytes
 length-record kind ns =
     simp (length-append, length-bytes2, length-all-bytes4) (omega arith)
-
-pub all-bytes4-append : (ms ns : List ℕ) → all-bytes4 (ms ++ ns) ≡ all-bytes4 ms ++ all-bytes4 ns
-unfolding all-bytes4
-all-bytes4-append [] ns = refl
-all-bytes4-append (m ∷ ms) ns = ap (λ (r : List ℕ). bytes4 m ++ r) (all-bytes4-append ms ns) ∙ sym (append-assoc (bytes4 m) (all-bytes4 ms) (all-bytes4 ns))
-
-pub all-bytes4-one : (n : ℕ) → all-bytes4 (n ∷ []) ≡ bytes4 n
-unfolding all-bytes4
-all-bytes4-one n = append-nil (bytes4 n)
 
 pub bytes-cons : (a : ℕ) (s : List ℕ) → a < 256 → Bytes s → Bytes (a ∷ s)
 bytes-cons a s h hs zero = h

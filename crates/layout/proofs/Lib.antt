@@ -1,5 +1,4 @@
--- Laws of the bytes of a record, and what stores leave.
+-- Laws of the bytes of a record.
 pub mod Bytes
 pub mod Read
 pub mod Record
-pub mod Stores

@@ -45,5 +45,3 @@ record-whole (x0 ∷ []) c h e l = absurd (omega arith)
 record-whole (x0 ∷ x1 ∷ []) c h e l = absurd (omega arith)
 record-whole (x0 ∷ x1 ∷ x2 ∷ []) c h e l = absurd (omega arith)
 record-whole (x0 ∷ x1 ∷ x2 ∷ x3 ∷ t) c h e l = record-front x0 x1 x2 x3 t c h (omega arith) (l ∙ e)
-
--- a number that was written in two or four bytes is read back from there

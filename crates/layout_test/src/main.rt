@@ -15,7 +15,7 @@ fn say_same(a: &[u8], b: &[u8]) {
 fn main() {
     let mut out: [u8; 20] = [9; 20];
     let ns: [u32; 3] = [65537, 4294967295, 67305985];
-    let size = layout::write_record(&mut out, 258, &ns, 3);
+    let size = writing::write_record(&mut out, 258, &ns, 3);
     say(size as u64);
     say(layout::read_u16(&out, 0) as u64);
     say(layout::read_u16(&out, 2) as u64);

@@ -1,4 +1,4 @@
--- layout::write_record writes the record of the kind's count.
+-- writing::write_record writes the record of the kind's count.
 use borrow.Author.Needs.{needs}
 use native.Mathlib.Omega.{arith}
 use mathlib.Core.Path.{ap}

@@ -1,12 +1,12 @@
--- `layout::write_numbers` meets its contract. The loop's invariant: the first i numbers are written.
+-- `writing::write_numbers` meets its contract. The loop's invariant: the first i numbers are written.
 use Prim.Native.Nat.{_≤_, _-_}
 use mathlib.Core.Path.{_≡_, refl, ap, _∙_}
 use lib.ListN.{length}
 use native.Mathlib.Omega.{arith}
 use borrow.Author.Needs.{needs}
-use Rattle.layout.proofs.Stores.{filled, filled-none, filled-turn}
-use Rattle.layout.proofs.write_numbers.Statement.{statement}
-use Rattle.layout.proofs.write_numbers.Tie as tie
+use Rattle.writing.proofs.Stores.{filled, filled-none, filled-turn}
+use Rattle.writing.proofs.write_numbers.Statement.{statement}
+use Rattle.writing.proofs.write_numbers.Tie as tie
 
 abbrev Inv-loop : tie.InvT-loop
 Inv-loop out₀ at ns count i₀ out i = (i ≤ count) × (out ≡ filled out₀ at ns i) × (length out ≡ length out₀)

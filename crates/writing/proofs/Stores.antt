@@ -1,5 +1,6 @@
 -- What stores one after the other leave.
 --   stores2, stores4    two and four stores from place i on replace the bytes there
+--   all-bytes4-append, all-bytes4-one    the bytes of two runs of numbers, and of one number
 --   filled d at ns i    d with the first i numbers of ns written from place `at` on
 --   written             a length, a kind and numbers, written one after the other, are a record
 --   filled-none, filled-more, filled-turn    the loop that writes them: before the first, after one more
@@ -11,8 +12,8 @@ use native.Mathlib.Numerals.{add-one, add-two, add-three}
 use native.Mathlib.Omega.{arith}
 use lib.ListN.{length, getD, take, drop, set, length-append, take-append-drop}
 use lib.Seq.{sets-eq, take-at, drop-at, drop-drop, take-suc, length-take-le}
 use Rattle.layout.specs.Layout.{bytes2, bytes4, all-bytes4, record-bytes}
-use Rattle.layout.proofs.Bytes.{length-bytes2, length-all-bytes4, all-bytes4-append, all-bytes4-one}
+use Rattle.layout.proofs.Bytes.{length-bytes2, length-all-bytes4}
 
 pub stores2 : (s : List ℕ) (i a b : ℕ) → i + 2 ≤ length s
     → set (set s i a) (i + 1) b ≡ take i s ++ (a ∷ b ∷ []) ++ drop (i + 2) s
@@ -21,6 +22,15 @@ stores2 s i a b h = rw add-one (sets-eq (a ∷ b ∷ []) s i h)
 pub stores4 : (s : List ℕ) (i a b c d : ℕ) → i + 4 ≤ length s
     → set (set (set (set s i a) (i + 1) b) (i + 2) c) (i + 3) d ≡ take i s ++ (a ∷ b ∷ c ∷ d ∷ []) ++ drop (i + 4) s
 stores4 s i a b c d h = rw (add-one, add-two, add-three) (sets-eq (a ∷ b ∷ c ∷ d ∷ []) s i h)
+
+pub all-bytes4-append : (ms ns : List ℕ) → all-bytes4 (ms ++ ns) ≡ all-bytes4 ms ++ all-bytes4 ns
+unfolding all-bytes4
+all-bytes4-append [] ns = refl
+all-bytes4-append (m ∷ ms) ns = ap (λ (r : List ℕ). bytes4 m ++ r) (all-bytes4-append ms ns) ∙ sym (append-assoc (bytes4 m) (all-bytes4 ms) (all-bytes4 ns))
+
+pub all-bytes4-one : (n : ℕ) → all-bytes4 (n ∷ []) ≡ bytes4 n
+unfolding all-bytes4
+all-bytes4-one n = append-nil (bytes4 n)
 
 abbrev pub filled : List ℕ → ℕ → List ℕ → ℕ → List ℕ
 filled d at ns i = take at d ++ all-bytes4 (take i ns) ++ drop (at + 4 * i) d

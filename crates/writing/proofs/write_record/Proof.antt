@@ -1,10 +1,10 @@
--- `layout::write_record` meets its contract: a length, a kind and numbers, written one after the other, are a record.
+-- `writing::write_record` meets its contract: a length, a kind and numbers, written one after the other, are a record.
 use mathlib.Core.Path.{refl}
 use native.Mathlib.Omega.{arith}
-use Rattle.layout.proofs.Stores.{written}
+use Rattle.writing.proofs.Stores.{written}
 use borrow.Author.Needs.{needs}
-use Rattle.layout.proofs.write_record.Statement.{statement}
-use Rattle.layout.proofs.write_record.Tie as tie
+use Rattle.writing.proofs.write_record.Statement.{statement}
+use Rattle.writing.proofs.write_record.Tie as tie
 
 mul-size : tie.Need-mul-size
 mul-size c = search needs

@@ -1,11 +1,11 @@
--- `layout::write_u32` meets its contract: the stores replace the bytes there.
+-- `writing::write_u32` meets its contract: the stores replace the bytes there.
 use borrow.Author.Needs.{needs}
 use lib.ListN.{length-set}
 use native.Mathlib.Omega.{arith}
 use Rattle.layout.specs.Layout.{bytes4}
-use Rattle.layout.proofs.Stores.{stores4}
-use Rattle.layout.proofs.write_u32.Statement.{statement}
-use Rattle.layout.proofs.write_u32.Tie as tie
+use Rattle.writing.proofs.Stores.{stores4}
+use Rattle.writing.proofs.write_u32.Statement.{statement}
+use Rattle.writing.proofs.write_u32.Tie as tie
 
 cast-s : tie.Need-cast-s
 cast-s c = search needs

@@ -1,0 +1,2 @@
+-- What stores one after the other leave.
+pub mod Stores
