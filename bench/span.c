@@ -158,7 +158,7 @@ int closed(const struct curve *c, const uint32_t t[3][26], const unsigned d[3])
         uint32_t v[26];
         times_y(c->p, c->f, t[j], d[j] + 1, v);
         reduce(c->p, t, d, v, d[j] + 5);
-        if (!is_zero(v, d[j] + 5))
+        if (!is_zero(v, 8))
             return 0;
     }
     return 1;
