@@ -1,0 +1,49 @@
+/* The calls of calls.c under the library's names, so that tests/vectors.c makes them in place of the archive's. */
+#include "calls.c"
+
+typedef const uint8_t *bytes;
+
+int32_t c34_check_curve(bytes c, size_t nc)
+{
+    return base_check_curve(c, nc);
+}
+
+int32_t c34_check_divisor(bytes c, size_t nc, bytes a, size_t na)
+{
+    return base_check_divisor(c, nc, a, na);
+}
+
+int32_t c34_sum(bytes c, size_t nc, bytes a, size_t na, bytes b, size_t nb, uint8_t *out, size_t room)
+{
+    return base_sum(c, nc, a, na, b, nb, out, room);
+}
+
+int32_t c34_double(bytes c, size_t nc, bytes a, size_t na, uint8_t *out, size_t room)
+{
+    return base_double(c, nc, a, na, out, room);
+}
+
+int32_t c34_negative(bytes c, size_t nc, bytes a, size_t na, uint8_t *out, size_t room)
+{
+    return base_negative(c, nc, a, na, out, room);
+}
+
+int32_t c34_multiple(bytes c, size_t nc, bytes a, size_t na, int64_t n, uint8_t *out, size_t room)
+{
+    return base_multiple(c, nc, a, na, n, out, room);
+}
+
+int32_t c34_list_sum(bytes c, size_t nc, bytes list, size_t n, uint8_t *out, size_t room)
+{
+    return base_list_sum(c, nc, list, n, out, room);
+}
+
+int32_t c34_compare(bytes c, size_t nc, bytes a, size_t na, bytes b, size_t nb)
+{
+    return base_compare(c, nc, a, na, b, nb);
+}
+
+int32_t c34_count(bytes c, size_t nc, bytes list, size_t n, uint32_t kind)
+{
+    return base_count(c, nc, list, n, kind);
+}
