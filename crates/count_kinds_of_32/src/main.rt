@@ -1,4 +1,4 @@
 // The counting program, run on a list of 32 records of which one has the kind 31.
 fn main() {
-    counting::run();
+    console::run();
 }

@@ -1,35 +1,17 @@
 -- Lines as they are put piece by piece.
---   share-none, share-some    the line of the share for no record, and for some
---   share-small      a share is 10,000 hundredths at most
 --   lines-tallied    the report by the tallies
 --   spaced-more      the numbers of a record behind spaces: one number more
 use mathlib.Core.Path.{_≡_, refl, sym, ap, _∙_}
 use mathlib.Core.List.{List, [], _∷_, _++_, append-assoc, append-nil}
-use Prim.Native.Nat.{ℕ, zero, suc, _+_, _*_, _≤_, _<_}
-use native.Mathlib.Nat.{div-lt-iff-lt-mul}
+use Prim.Native.Nat.{ℕ, zero, suc, _+_, _*_}
 use native.Mathlib.Numerals.{add-one}
 use native.Mathlib.Omega.{arith}
 use Rattle.text.specs.Ascii.{ascii}
 use Rattle.text.specs.Decimal.{decimal}
 use Rattle.layout.specs.Layout.{number4, numbers}
-use Rattle.report.specs.Report.{rounded, per-cent, count-lines, share-line, spaced, sum-line, lines}
+use Rattle.report.specs.Report.{count-lines, share-line, spaced, sum-line, lines}
 use Rattle.tallies.specs.declared.Tallies.{Tallies}
 use Rattle.tallies.specs.Tallied.{TalliesOf}
-
-pub share-none : (t n : ℕ) → n ≡ 0 → share-line t n ≡ ascii "share none\n"
-unfolding share-line
-share-none t zero e = refl
-share-none t (suc n) e = absurd (omega arith)
-
-pub share-some : (t n : ℕ) → 0 < n → share-line t n ≡ ascii "share " ++ per-cent (rounded (10000 * t) n) ++ ascii "\n"
-unfolding share-line
-share-some t zero h = absurd (omega arith)
-share-some t (suc n) h = refl
-
-pub share-small : (t n : ℕ) → t ≤ n → 0 < n → rounded (10000 * t) n ≤ 10000
-share-small t n h p =
-    let less : rounded (10000 * t) n < 10001 = div-lt-iff-lt-mul {k = 2 * n} (omega arith) .1 (omega arith) in
-    omega arith
 
 numbers-more : (s : List ℕ) (i c : ℕ) → numbers s i (suc c) ≡ numbers s i c ++ (number4 s (i + 4 * c) ∷ [])
 unfolding numbers

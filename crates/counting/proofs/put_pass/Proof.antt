@@ -2,7 +2,7 @@
 use mathlib.Core.Path.{subst}
 use borrow.Author.Needs.{needs}
 use native.Mathlib.Omega.{arith}
-use Rattle.answer.proofs.Write.{write-asked}
+use Rattle.reply.proofs.Write.{write-asked}
 use Rattle.counting.specs.Contracts.{Printable}
 use Rattle.counting.proofs.Printed.{taken, all-put, refused-put}
 use Rattle.counting.proofs.put_pass.Statement.{statement}

@@ -2,7 +2,7 @@
 use denote.Ref.{now}
 use Rattle.equation.specs.declared.Equation.{Equation}
 use Rattle.calls.specs.Call.{list-of}
-use Rattle.answer.proofs.Curve.{curve-passes, curve-asked, curve-on, curve-cause}
+use Rattle.reader.proofs.Ground.{curve-passes, curve-asked, curve-on, curve-cause}
 use Rattle.counting.proofs.Printed.{printable, printed-found, printed-cause}
 use borrow.Author.Needs.{needs}
 use Rattle.counting.proofs.put_report.Statement.{statement}

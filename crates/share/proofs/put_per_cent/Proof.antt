@@ -1,11 +1,11 @@
--- `printing::put_per_cent` meets its contract: the whole part, a point and two digits.
+-- `share::put_per_cent` meets its contract: the whole part, a point and two digits.
 use native.Mathlib.Omega.{arith}
 use Rattle.text.proofs.Put.{put-then}
 use Rattle.report.specs.Report.{per-cent}
 use Rattle.text.specs.Decimal.{two-digits}
 use borrow.Author.Needs.{needs}
-use Rattle.printing.proofs.put_per_cent.Statement.{statement}
-use Rattle.printing.proofs.put_per_cent.Tie as tie
+use Rattle.share.proofs.put_per_cent.Statement.{statement}
+use Rattle.share.proofs.put_per_cent.Tie as tie
 
 put-number-requires : tie.Need-put-number-requires
 put-number-requires c κs = search needs

@@ -1,10 +1,10 @@
--- `printing::put_share` meets its contract: one line for no record, and one for some.
+-- `share::put_share` meets its contract: one line for no record, and one for some.
 use native.Mathlib.Omega.{arith}
 use Rattle.text.proofs.Put.{put-then}
-use Rattle.printing.proofs.Lines.{share-none, share-some, share-small}
+use Rattle.share.proofs.Share.{share-none, share-some, share-small}
 use borrow.Author.Needs.{needs}
-use Rattle.printing.proofs.put_share.Statement.{statement}
-use Rattle.printing.proofs.put_share.Tie as tie
+use Rattle.share.proofs.put_share.Statement.{statement}
+use Rattle.share.proofs.put_share.Tie as tie
 
 slice-aggregate-put-bytes : tie.Need-slice-aggregate-put-bytes
 slice-aggregate-put-bytes c = search needs

@@ -1,8 +1,8 @@
--- `counting::skip_rest` is safe and ends. The measure is the number of turns that are left.
+-- `console::skip_rest` is safe and ends. The measure is the number of turns that are left.
 -- Nothing has to hold from turn to turn, so the invariant is `Unit {0}`, the fact that says nothing, which `tt` shows.
 use native.Mathlib.Omega.{arith}
-use Rattle.counting.proofs.skip_rest.Statement.{statement}
-use Rattle.counting.proofs.skip_rest.Tie as tie
+use Rattle.console.proofs.skip_rest.Statement.{statement}
+use Rattle.console.proofs.skip_rest.Tie as tie
 
 abbrev Inv-loop : tie.InvT-loop
 Inv-loop turns₀ turns = Unit {0}

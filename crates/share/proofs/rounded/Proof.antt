@@ -1,8 +1,8 @@
--- `printing::rounded` meets its contract: nothing overflows below 2⁶², and the quotient is the definition's.
+-- `share::rounded` meets its contract: nothing overflows below 2⁶², and the quotient is the definition's.
 use mathlib.Core.Path.{refl}
 use borrow.Author.Needs.{needs}
-use Rattle.printing.proofs.rounded.Statement.{statement}
-use Rattle.printing.proofs.rounded.Tie as tie
+use Rattle.share.proofs.rounded.Statement.{statement}
+use Rattle.share.proofs.rounded.Tie as tie
 
 mul-result : tie.Need-mul-result
 mul-result c = search needs

@@ -1,0 +1,2 @@
+-- The line of the share piece by piece.
+pub mod Share
