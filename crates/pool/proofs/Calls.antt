@@ -20,9 +20,9 @@ use Rattle.calls.specs.Pool.{PoolCall, entry, without, amount, written-by, pool
 use Rattle.calls.proofs.Places.{long-enough, too-short, without-both, perm-length}
 use Rattle.calls.proofs.Exists.{two-passes}
 use Rattle.calls.proofs.Answers.{Answered, short, enough, answer, two-sound, record-fits}
-use Rattle.pool.specs.Held.{slot, at-slot, Held, Copied}
+use Rattle.slots.specs.Held.{slot, at-slot, Held, Copied}
+use Rattle.slots.proofs.Slots.{held-more, length-more}
 use Rattle.pool.specs.Run.{InSlot, Accepted, CallMade}
-use Rattle.pool.proofs.Slots.{held-more, length-more}
 
 module _ (c s : List ℕ) (p : List (List ℕ)) (held : Held s p) (accepted : Accepted c p) (m : ℕ) (below : m < length p) where
   fits : (4 ≤ length (entry p m)) × (length (entry p m) ≤ room)

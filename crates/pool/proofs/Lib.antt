@@ -1,5 +1,4 @@
 -- Laws of a pool in lent memory.
-pub mod Slots
 pub mod Calls
 pub mod OneCall
 pub mod Runs

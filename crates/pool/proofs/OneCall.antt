@@ -15,7 +15,7 @@ use mir.Syntax.{w64}
 use Rattle.calls.specs.Call.{Sum, room}
 use Rattle.calls.specs.Pool.{amount}
 use Rattle.calls.proofs.Places.{long-enough, too-short}
-use Rattle.pool.specs.Held.{slot, at-slot, Held, Copied, Closed}
+use Rattle.slots.specs.Held.{slot, at-slot, Held, Copied, Closed}
 use Rattle.pool.specs.Run.{InSlot, Accepted, StepAsked, StepMade, CallMade}
 use Rattle.pool.proofs.Calls.{sized, Wrote, wrote, made-short, made-long}
 

@@ -18,7 +18,7 @@ use Rattle.calls.proofs.Together.{together-entry}
 use Rattle.calls.proofs.Step.{Good}
 use Rattle.calls.proofs.Pairs.{parts-bytes, start, run, adding-by-pairs}
 use Rattle.layout.specs.Layout.{Bytes}
-use Rattle.pool.specs.Held.{Held}
+use Rattle.slots.specs.Held.{Held}
 use Rattle.pool.specs.Run.{Accepted, StepAsked, CallMade, StepMade, left-of, Valid, Holding, RunAsked, call-numbers, Ran, RunMade}
 
 module _ (k : PoolCall) where

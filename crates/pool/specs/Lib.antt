@@ -1,3 +1,2 @@
--- A pool in lent memory, and what the functions on it ensure.
-pub mod Held
+-- What the functions on a pool in lent memory ensure.
 pub mod Run

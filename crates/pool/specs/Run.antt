@@ -24,7 +24,7 @@ use Rattle.calls.specs.Class.{Record}
 use Rattle.calls.specs.Call.{room}
 use Rattle.curve.specs.Sequence.{pick}
 use Rattle.calls.specs.Pool.{PoolCall, entry, pool-after, pool-of, IsCall, Made, PoolEnd}
-use Rattle.pool.specs.Held.{slot, Held}
+use Rattle.slots.specs.Held.{slot, Held}
 
 pub record InSlot (s : List ℕ) (m : ℕ) : Type 0 where
   pub head : slot m + 2 ≤ length s

@@ -1,75 +1,16 @@
 // A list of sum calls, carried out on a pool of records in lent memory: slots of 40 bytes, slot m from place 40·m on.
-ghost use Prim.Native.Nat.{_+_, _*_, _≤_, _<_};
 ghost use lib.ListN.{length};
 ghost use Rattle.calls.specs.Call.{Sum};
-ghost use Rattle.pool.specs.Held.{at-slot, Copied, Passed, Closed};
+ghost use Rattle.slots.specs.Held.{at-slot};
 ghost use Rattle.pool.specs.Run.{InSlot, StepAsked, StepMade, RunAsked, RunMade};
-
-// The length of a slot: the longest record fits.
-const SLOT: usize = 40;
-
-// Copies n bytes from place `from` to place `at` before it.
-fn copy_back(s: &mut [u8], at: usize, from: usize, n: usize)
-    requires { ⌜ at ≤ from ⌝ }
-    requires { do ⌜ from + n ≤ (← ⟦s.len()⟧) ⌝ }
-    ensures { λ _. ⌜ Copied (now (s .entry)) at (now (s .entry)) from n (now (s .exit)) ⌝ }
-{
-    let mut k = 0;
-    while k < n {
-        s[at + k] = s[from + k];
-        k += 1;
-    }
-}
-
-// Copies the first n bytes of t to place `at`.
-fn copy_in(s: &mut [u8], at: usize, t: &[u8], n: usize)
-    requires { do ⌜ at + n ≤ (← ⟦s.len()⟧) ⌝ }
-    requires { do ⌜ n ≤ (← ⟦t.len()⟧) ⌝ }
-    ensures { λ _. ⌜ Copied (now (s .entry)) at (now (t .entry)) 0 n (now (s .exit)) ⌝ }
-{
-    let mut k = 0;
-    while k < n {
-        s[at + k] = t[k];
-        k += 1;
-    }
-}
-
-// Passes slot m: leaves it out where m is i or j, else copies it to slot w. The result is the next slot to write.
-fn pass_slot(s: &mut [u8], w: usize, m: usize, i: usize, j: usize) -> usize
-    requires { ⌜ w ≤ m ⌝ }
-    requires { do ⌜ 40 * m + 40 ≤ (← ⟦s.len()⟧) ⌝ }
-    ensures { λ r. ⌜ Passed (now (s .entry)) w m i j (now (s .exit)) r ⌝ }
-{
-    if m == i {
-        return w;
-    }
-    if m == j {
-        return w;
-    }
-    copy_back(s, SLOT * w, SLOT * m, SLOT);
-    w + 1
-}
-
-// Takes the records i and j out of the first n slots, and closes up the rest.
-fn close_up(s: &mut [u8], n: usize, i: usize, j: usize)
-    requires { do ⌜ 40 * n ≤ (← ⟦s.len()⟧) ⌝ }
-    ensures { λ _. ⌜ Closed (now (s .entry)) n i j (now (s .exit)) ⌝ }
-{
-    let mut w = 0;
-    let mut m = 0;
-    while m < n {
-        w = pass_slot(s, w, m, i, j);
-        m += 1;
-    }
-}
 
 // The sum call of the records at the slots i and j.
 fn sum_slots(curve: &[u8], s: &[u8], i: usize, j: usize, out: &mut [u8]) -> i32
     requires { ⌜ InSlot (now s) i × InSlot (now s) j ⌝ }
     ensures { λ r. ⌜ Sum (now (curve .entry)) (at-slot (now (s .entry)) i) (at-slot (now (s .entry)) j) (now (out .entry)) r (now (out .exit)) ⌝ }
 {
-    let a = SLOT * i;
-    let b = SLOT * j;
+    let a = slots::SLOT * i;
+    let b = slots::SLOT * j;
     let n = layout::read_u16(s, a) as usize;
     let m = layout::read_u16(s, b) as usize;
     answer::sum(curve, &s[a..a + n], &s[b..b + m], out)
@@ -84,8 +25,8 @@ fn step(curve: &[u8], s: &mut [u8], n: usize, i: usize, j: usize, out: &mut [u8]
     if out.len() < reader::ROOM {
         return n;
     }
-    close_up(s, n, i, j);
-    copy_in(s, SLOT * (n - 2), &out[..], r as usize);
+    slots::close_up(s, n, i, j);
+    slots::copy_in(s, slots::SLOT * (n - 2), &out[..], r as usize);
     n - 1
 }
 

@@ -30,7 +30,7 @@ use Rattle.calls.proofs.Multiples.{list-class}
 use Rattle.worked.specs.Table.{E}
 use Rattle.worked.proofs.Tests.{bytes-sound}
 use Rattle.worked.proofs.Worked.{worked}
-use Rattle.pool.specs.Held.{slot, Held}
+use Rattle.slots.specs.Held.{slot, Held}
 use Rattle.pool.specs.Run.{Valid, Holding, RunAsked, RunMade}
 use Rattle.pool_test.specs.Start.{records, slots, start}
 

@@ -1,13 +1,13 @@
--- `pool::copy_in` meets its contract. The loop's invariant: the first k bytes are copied.
+-- `slots::copy_in` meets its contract. The loop's invariant: the first k bytes are copied.
 use Prim.Native.Nat.{ℕ, _≤_, _-_}
 use mathlib.Core.Path.{ap}
 use native.Mathlib.Omega.{arith}
 use lib.ListN.{getD}
 use borrow.Author.Needs.{needs}
-use Rattle.pool.specs.Held.{Copied}
-use Rattle.pool.proofs.Slots.{copied-none, copied-more, copied-end}
-use Rattle.pool.proofs.copy_in.Statement.{statement}
-use Rattle.pool.proofs.copy_in.Tie as tie
+use Rattle.slots.specs.Held.{Copied}
+use Rattle.slots.proofs.Slots.{copied-none, copied-more, copied-end}
+use Rattle.slots.proofs.copy_in.Statement.{statement}
+use Rattle.slots.proofs.copy_in.Tie as tie
 
 abbrev Inv-loop : tie.InvT-loop
 Inv-loop s₀ at t n k₀ s k = (k ≤ n) × Copied s₀ at t 0 k s

@@ -20,7 +20,7 @@ use Rattle.calls.specs.Call.{room}
 use Rattle.curve.specs.Sequence.{pick}
 use Rattle.calls.specs.Pool.{entry, without, without-from}
 use Rattle.calls.proofs.Places.{same-place, other-place}
-use Rattle.pool.specs.Held.{slot, Held, Copied, Passed, first, second, other}
+use Rattle.slots.specs.Held.{slot, Held, Copied, Passed, first, second, other}
 
 pub copied-none : (s : List ℕ) (at : ℕ) (t : List ℕ) (from : ℕ) → Copied s at t from 0 s
 copied-none s at t from = record { long = refl; here = λ k l. absurd (omega arith); before = λ k l. refl; after = λ k l. refl }

@@ -1,9 +1,9 @@
--- `pool::pass_slot` meets its contract.
+-- `slots::pass_slot` meets its contract.
 use mathlib.Core.Path.{refl}
 use borrow.Author.Needs.{needs}
-use Rattle.pool.specs.Held.{first, second, other}
-use Rattle.pool.proofs.pass_slot.Statement.{statement}
-use Rattle.pool.proofs.pass_slot.Tie as tie
+use Rattle.slots.specs.Held.{first, second, other}
+use Rattle.slots.proofs.pass_slot.Statement.{statement}
+use Rattle.slots.proofs.pass_slot.Tie as tie
 
 returns : tie.Need-returns
 returns c = first (c .if1 .taken) refl refl

@@ -1,11 +1,11 @@
--- `pool::copy_back` meets its contract. The loop's invariant: the first k bytes are copied, and those from place `at + k` on are as they were.
+-- `slots::copy_back` meets its contract. The loop's invariant: the first k bytes are copied, and those from place `at + k` on are as they were.
 use Prim.Native.Nat.{_≤_, _+_, _-_}
 use native.Mathlib.Omega.{arith}
 use borrow.Author.Needs.{needs}
-use Rattle.pool.specs.Held.{Copied}
-use Rattle.pool.proofs.Slots.{copied-none, copied-more, copied-end}
-use Rattle.pool.proofs.copy_back.Statement.{statement}
-use Rattle.pool.proofs.copy_back.Tie as tie
+use Rattle.slots.specs.Held.{Copied}
+use Rattle.slots.proofs.Slots.{copied-none, copied-more, copied-end}
+use Rattle.slots.proofs.copy_back.Statement.{statement}
+use Rattle.slots.proofs.copy_back.Tie as tie
 
 abbrev Inv-loop : tie.InvT-loop
 Inv-loop s₀ at from n k₀ s k = (k ≤ n) × Copied s₀ at s₀ from k s

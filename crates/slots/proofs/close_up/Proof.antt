@@ -1,14 +1,14 @@
--- `pool::close_up` meets its contract. The loop's invariant: m slots are passed, and what is left of their records stands in the first w slots.
+-- `slots::close_up` meets its contract. The loop's invariant: m slots are passed, and what is left of their records stands in the first w slots.
 use Prim.Native.Nat.{ℕ, _≤_, _-_}
 use mathlib.Core.Path.{_≡_, refl, _∙_}
 use mathlib.Core.List.{List}
 use native.Mathlib.Omega.{arith}
 use lib.ListN.{length}
 use borrow.Author.Needs.{needs}
-use Rattle.pool.specs.Held.{Held}
-use Rattle.pool.proofs.Slots.{Closing, closing-none, closing-turn, closing-all, passed-below}
-use Rattle.pool.proofs.close_up.Statement.{statement}
-use Rattle.pool.proofs.close_up.Tie as tie
+use Rattle.slots.specs.Held.{Held}
+use Rattle.slots.proofs.Slots.{Closing, closing-none, closing-turn, closing-all, passed-below}
+use Rattle.slots.proofs.close_up.Statement.{statement}
+use Rattle.slots.proofs.close_up.Tie as tie
 
 abbrev Inv-loop : tie.InvT-loop
 Inv-loop s₀ n i j w₀ m₀ s w m =

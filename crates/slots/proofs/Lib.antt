@@ -1,0 +1,2 @@
+-- Laws of records in slots of lent memory.
+pub mod Slots
