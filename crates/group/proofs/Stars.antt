@@ -18,7 +18,7 @@ use Rattle.ideal.proofs.Product.{product-of, product-ideal, product-same}
 use Rattle.vector.specs.Vector.{at}
 use Rattle.triple.specs.Setting.{Setting, ring, poles-of}
 use Rattle.triple.specs.Triple.{Spanned}
-use Rattle.span.specs.Contract.{ProductAsked, Multiplied}
+use Rattle.product.specs.Contract.{ProductAsked, Multiplied}
 use Rattle.triple.proofs.Leads.{spanned-lead}
 use Rattle.ground.specs.declared.Ground.{Ground}
 use Rattle.basis.specs.declared.Divisor.{Divisor}

@@ -42,7 +42,7 @@ fn product_star(g: Ground, a: Divisor, b: Divisor) -> Divisor
     basis::triple_of(b, &mut t2, &mut d2);
     let mut t = [[0u32; 26]; 3];
     let mut d = [0usize; 3];
-    span::product(g.p, &g.cube, &t1, &d1, &t2, &d2, &mut t, &mut d);
+    product::product(g.p, &g.cube, &t1, &d1, &t2, &d2, &mut t, &mut d);
     star::star(g, &t, &d)
 }
 

@@ -1,14 +1,13 @@
--- What the functions on products of vectors require and ensure.
+-- What the functions on multiples of vectors by powers of y require and ensure.
 --   Cube p C y3               y3 is the vector of y³
 --   TimesYAsked, TimesY       times_y: y·v
 --   Rows p ys top             three vectors, the j-th below top + 4·j
 --   RowsOf p C ys g           … which stand for g, y·g and y²·g
 --   YMultiplesAsked, YMultiples       y_multiples: v, y·v and y²·v
---   TimesAsked, Times         times: b·g from the y-multiples of g
 --   ShiftAsked, Shifted       shift_y: v[n] at the place n + 4, for each n of the classes 0 and 1 modulo 3
 use mathlib.Core.Path.{_≡_}
 use mathlib.Core.List.{List}
-use Prim.Native.Nat.{ℕ, _+_, _*_, _-_, _%_, _<_, _≤_}
+use Prim.Native.Nat.{ℕ, _+_, _*_, _%_, _<_, _≤_}
 use lib.ListN.{length}
 use Rattle.algebra.specs.Ring.{CommRing}
 use Rattle.field.specs.Residue.{Z}
@@ -51,18 +50,6 @@ pub record RowsOf (p : ℕ) (C : Curve (Z p)) (ys : List (List ℕ)) (g : Coordi
 pub record YMultiples (p : ℕ) (y3 v : List ℕ) (top : ℕ) (ys : List (List ℕ)) : Type 0 where
   pub rows : Rows p ys top
   pub value : (C : Curve (Z p)) → Cube p C y3 → RowsOf p C ys (element p C v)
-
-pub record TimesAsked (p : ℕ) (b : List ℕ) (e : ℕ) (ys : List (List ℕ)) (top : ℕ) : Type 0 where
-  pub b-vec : Vec p b
-  pub b-top : Top b e
-  pub rows : Rows p ys top
-  pub inside : e ≤ width
-  pub room : e + top ≤ 27
-
-pub record Times (p : ℕ) (b : List ℕ) (e : ℕ) (ys : List (List ℕ)) (top : ℕ) (r : List ℕ) : Type 0 where
-  pub vec : Vec p r
-  pub top-out : Top r (e + top - 1)
-  pub value : (C : Curve (Z p)) (g : Coordinate C .Car) → RowsOf p C ys g → element p C r ≡ Coordinate C .mul (element p C b) g
 
 pub record ShiftAsked (v : List ℕ) (top : ℕ) : Type 0 where
   pub room : top + 4 ≤ width

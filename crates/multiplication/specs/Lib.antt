@@ -1,2 +1,2 @@
--- Products of vectors: what the functions on them ensure.
+-- Multiples of vectors by powers of y: what the functions on them ensure.
 pub mod Contract

@@ -1,8 +1,7 @@
-// Products of vectors: y·v by the vector of y³, and b·g from the y-multiples of g. Loops end at the degree.
-mod normal;
+// Multiples of a vector v by powers of y: y·v and y²·v, by the vector of y³. Loops end at the degree.
+pub mod normal;
 
-ghost use Rattle.multiplication.specs.Contract.{TimesYAsked, TimesY, YMultiplesAsked, YMultiples, TimesAsked, Times, ShiftAsked, Shifted};
-use crate::normal::X_POLE;
+ghost use Rattle.multiplication.specs.Contract.{TimesYAsked, TimesY, YMultiplesAsked, YMultiples, ShiftAsked, Shifted};
 use crate::normal::Y_POWER;
 
 // y·v for v below top, where cube is y³.
@@ -27,25 +26,6 @@ pub fn y_multiples(p: u32, cube: &[u32; 26], v: &[u32; 26], top: usize) -> [[u32
     let a = times_y(p, cube, v, top);
     let b = times_y(p, cube, &a, top + 4);
     [*v, a, b]
-}
-
-// b·g for b below e, from the vectors g, y·g and y²·g, the first of them below top.
-pub fn times(p: u32, b: &[u32; 26], e: usize, ys: &[[u32; 26]; 3], top: usize) -> [u32; 26]
-    requires { ⌜ TimesAsked p (now b) e (now ys) top ⌝ }
-    ensures { λ r. ⌜ Times p (now (b .entry)) e (now (ys .entry)) top r ⌝ }
-{
-    let powers = Y_POWER;
-    let poles = X_POLE;
-    let mut out = [0u32; 26];
-    let mut n = 0;
-    while n < e {
-        let j = powers[n] as usize;
-        if j < 3 {
-            vector::axpy(p, &mut out, b[n], &ys[j], poles[n] as usize, top + 4 * j);
-        }
-        n += 1;
-    }
-    out
 }
 
 // The part of y·v that comes from the classes 0 and 1 modulo 3: v[n] at n + 4, unless a power of x stands there.

@@ -1,3 +1,2 @@
 -- Laws of the spans of triples.
 pub mod Reduction
-pub mod Products

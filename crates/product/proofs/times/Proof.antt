@@ -1,12 +1,12 @@
--- `multiplication::times` meets its contract. The loop's invariant is TimesPart of proofs/Product, its measure e − n. What it reads off the table is
+-- `product::times` meets its contract. The loop's invariant is TimesPart of proofs/Terms, its measure e − n. What it reads off the table is
 -- y-at n and x-at n by computation.
 use mathlib.Core.Logic.{⊎-elim}
 use Prim.Native.Nat.{_≤_, _-_}
 use native.Mathlib.Omega.{arith}
-use Rattle.multiplication.proofs.Entry.{entry-fits}
-use Rattle.multiplication.proofs.Product.{TimesPart, part-start, turn-asked, turn-more, turn-skip, part-end, part-as}
-use Rattle.multiplication.proofs.times.Statement.{statement}
-use Rattle.multiplication.proofs.times.Tie as tie
+use Rattle.product.proofs.Entry.{entry-fits}
+use Rattle.product.proofs.Terms.{TimesPart, part-start, turn-asked, turn-more, turn-skip, part-end, part-as}
+use Rattle.product.proofs.times.Statement.{statement}
+use Rattle.product.proofs.times.Tie as tie
 
 abbrev Inv-loop : tie.InvT-loop
 Inv-loop p b e ys top powers poles out₀ n₀ out n = TimesPart p b n ys top out × (n ≤ e)

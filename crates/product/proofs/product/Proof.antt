@@ -1,9 +1,9 @@
--- `span::product` meets its contract. The loop's invariant is Multiplying of proofs/Products, its measure 3 − j.
+-- `product::product` meets its contract. The loop's invariant is Multiplying of proofs/Products, its measure 3 − j.
 use Prim.Native.Nat.{_-_}
 use native.Mathlib.Omega.{arith}
-use Rattle.span.proofs.Products.{Multiplying, multiply-start, multiples-asked, products-asked, multiply-more, multiply-end}
-use Rattle.span.proofs.product.Statement.{statement}
-use Rattle.span.proofs.product.Tie as tie
+use Rattle.product.proofs.Products.{Multiplying, multiply-start, multiples-asked, products-asked, multiply-more, multiply-end}
+use Rattle.product.proofs.product.Statement.{statement}
+use Rattle.product.proofs.product.Tie as tie
 
 abbrev Inv-loop : tie.InvT-loop
 Inv-loop p y3 t1 d1 t2 d2 t₀ d₀ j₀ t d j = Multiplying p y3 t1 t2 t d j

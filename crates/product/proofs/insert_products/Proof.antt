@@ -1,9 +1,9 @@
--- `span::insert_products` meets its contract. The loop's invariant is Putting of proofs/Products, its measure 3 − i.
+-- `product::insert_products` meets its contract. The loop's invariant is Putting of proofs/Products, its measure 3 − i.
 use Prim.Native.Nat.{_-_}
 use native.Mathlib.Omega.{arith}
-use Rattle.span.proofs.Products.{Putting, put-start, put-degree, times-asked, put-asked, put-more, put-end}
-use Rattle.span.proofs.insert_products.Statement.{statement}
-use Rattle.span.proofs.insert_products.Tie as tie
+use Rattle.product.proofs.Products.{Putting, put-start, put-degree, times-asked, put-asked, put-more, put-end}
+use Rattle.product.proofs.insert_products.Statement.{statement}
+use Rattle.product.proofs.insert_products.Tie as tie
 
 abbrev Inv-loop : tie.InvT-loop
 Inv-loop p t1 d1 ys top t₀ d₀ i₀ t d i = Putting p t1 ys t₀ t d i

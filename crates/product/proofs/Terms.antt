@@ -21,11 +21,12 @@ use Rattle.curve.specs.Pole.{pole}
 use Rattle.curve.specs.Table.{y-at, x-at}
 use Rattle.vector.specs.Vector.{Vec, Top, at, row, element, x-to, y-to, scalar}
 use Rattle.vector.specs.Contract.{Added, AxpyAsked}
-use Rattle.multiplication.specs.Contract.{RowsOf, TimesAsked, Times}
+use Rattle.multiplication.specs.Contract.{RowsOf}
+use Rattle.product.specs.Contract.{TimesAsked, Times}
 use Rattle.vector.proofs.Loop.{zeros-at, zeros-vec}
-use Rattle.multiplication.proofs.Entry.{entry-class, entry-gap}
+use Rattle.product.proofs.Entry.{entry-class, entry-gap}
 use Rattle.vector.proofs.Element.{element-zero, added-value}
 use Rattle.multiplication.proofs.Portion.{portion, portion-all, portion-none, portion-same, portion-step}
 
 abbrev pub First : ℕ → ℕ → Type 0
 First n m = m < n
