@@ -19,9 +19,10 @@ use Rattle.triple.specs.Setting.{Setting, ring, poles-of}
 use Rattle.ground.specs.declared.Ground.{Ground}
 use Rattle.ground.specs.Ground.{Grounded}
 use Rattle.basis.specs.declared.Divisor.{Divisor}
-use Rattle.group.specs.Contract.{IsDivisor, ideal, SumAsked, SumOf, IsCopies, ZeroClass}
+use Rattle.group.specs.Contract.{IsDivisor, ideal, SumAsked, SumOf, ZeroClass}
+use Rattle.multiples.specs.Copies.{IsCopies}
 use Rattle.group.proofs.Divisor.{divisor-footprint, kind-zero, zero-divisor}
 use Rattle.group.proofs.Sums.{sum-equivalent}
 
 odd-total : (n i j : ℕ) → n % 2 ≡ 1 → i + j + n / 2 * (2 * j) ≡ i + n * (1 * j)
 odd-total n i j e = ring (n / 2) i j ∙ ap (λ u. i + u * (1 * j)) (omega arith)

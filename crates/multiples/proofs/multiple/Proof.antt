@@ -1,12 +1,12 @@
--- `group::multiple` meets its contract. The loop's invariant: r stands for i copies of a, b for j copies, and i + n·j = m. The measure is n.
+-- `multiples::multiple` meets its contract. The loop's invariant: r stands for i copies of a, b for j copies, and i + n·j = m. The measure is n.
 use mathlib.Core.Logic.{⊎-elim}
 use Prim.Native.Nat.{_/_}
 use native.Mathlib.Omega.{arith}
 use borrow.Author.Needs.{needs}
 use Rattle.group.specs.Contract.{NegativeAsked}
-use Rattle.group.proofs.Copies.{Held, held-add, held-twice, held-start, held-odd, held-even, held-done, held-double, held-end}
-use Rattle.group.proofs.multiple.Statement.{statement}
-use Rattle.group.proofs.multiple.Tie as tie
+use Rattle.multiples.proofs.Copies.{Held, held-add, held-twice, held-start, held-odd, held-even, held-done, held-double, held-end}
+use Rattle.multiples.proofs.multiple.Statement.{statement}
+use Rattle.multiples.proofs.multiple.Tie as tie
 
 abbrev Inv-loop : tie.InvT-loop
 Inv-loop g m r₀ b₀ n₀ r b n = (A : NegativeAsked g b₀) → Held (A .grounded) (A .a-is) m 1 r b n
