@@ -5,9 +5,9 @@ use mathlib.Core.Logic.{inl, inr}
 use Prim.Native.Nat.{ℕ, _+_, _*_}
 use native.Mathlib.Omega.{arith}
 use borrow.Author.Tests.{not-true, not-false}
-use Rattle.checks.proofs.Answer.{checked-none, checked-cause}
-use Rattle.checks.proofs.divisor_form.Statement.{statement}
-use Rattle.checks.proofs.divisor_form.Tie as tie
+use Rattle.form.proofs.Answer.{checked-none, checked-cause}
+use Rattle.form.proofs.divisor_form.Statement.{statement}
+use Rattle.form.proofs.divisor_form.Tie as tie
 
 sized-requires : tie.Need-sized-requires
 sized-requires c κs = search needs

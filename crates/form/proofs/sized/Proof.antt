@@ -3,8 +3,8 @@ use borrow.Author.Needs.{needs}
 use mathlib.Core.Path.{sym, _∙_}
 use native.Mathlib.Omega.{arith}
 use Rattle.algebra.proofs.Answers.{answer-yes, answer-no}
-use Rattle.checks.proofs.sized.Statement.{statement}
-use Rattle.checks.proofs.sized.Tie as tie
+use Rattle.form.proofs.sized.Statement.{statement}
+use Rattle.form.proofs.sized.Tie as tie
 
 returns : tie.Need-returns
 returns c = answer-no (λ h. omega arith)

@@ -1,9 +1,9 @@
--- `field::inverse` meets its contract. The loop's invariant is State of proofs/Euclid, and its measure r1; after the first division of a
+-- `inversion::inverse` meets its contract. The loop's invariant is State of proofs/Euclid, and its measure r1; after the first division of a
 -- turn Middle holds.
 use native.Mathlib.Omega.{arith}
-use Rattle.field.proofs.Euclid.{State, state-start, state-middle, middle-state, middle-bound, state-bound, end-zero, end-first, end-second}
-use Rattle.field.proofs.inverse.Statement.{statement}
-use Rattle.field.proofs.inverse.Tie as tie
+use Rattle.inversion.proofs.Euclid.{State, state-start, state-middle, middle-state, middle-bound, state-bound, end-zero, end-first, end-second}
+use Rattle.inversion.proofs.inverse.Statement.{statement}
+use Rattle.inversion.proofs.inverse.Tie as tie
 
 abbrev Inv-loop : tie.InvT-loop
 Inv-loop p a r0₀ r1₀ t0₀ t1₀ r0 r1 t0 t1 = State p a r0 r1 t0 t1
