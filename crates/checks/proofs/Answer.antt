@@ -1,21 +1,11 @@
--- Answers of the functions that check: how each return gives one.
---   checked-none, checked-cause    no refusal, and a refusal
+-- Laws of numbers below p, and of nine numbers.
 --   below-at, at-below    all numbers of a list are below p
---   nine               what holds of 0 to 8 holds of each i below 9
-use mathlib.Core.Path.{_≡_, refl}
+--   nine                  what holds of 0 to 8 holds of each i below 9
 use mathlib.Core.List.{List, [], _∷_}
 use Prim.Native.Nat.{ℕ, zero, suc, _<_}
 use native.Mathlib.Omega.{arith}
 use lib.ListN.{length, getD}
-use Rattle.record.specs.Cause.{Stage, FirstCause, Passes}
-use Rattle.checks.specs.Contract.{Checked, AllBelow}
-
-module _ {ss : List Stage} where
-  pub checked-none : Passes ss → Checked ss 0
-  checked-none p = record { passes = λ e. p; cause = λ n. absurd (n refl) }
-
-  pub checked-cause : (n : ℕ) → ¬ (n ≡ 0) → FirstCause ss n → Checked ss n
-  checked-cause n h f = record { passes = λ e. absurd (h e); cause = λ _. f }
+use Rattle.checks.specs.Contract.{AllBelow}
 
 pub below-at : (p : ℕ) (ns : List ℕ) → AllBelow p ns → (i : ℕ) → i < length ns → getD ns i 0 < p
 below-at p [] h i l = absurd (omega arith)

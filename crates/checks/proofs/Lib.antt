@@ -1,2 +1,2 @@
--- Why the functions on the form and the numbers of records find what they find.
+-- Why the functions on the numbers of records find what they find.
 pub mod Answer

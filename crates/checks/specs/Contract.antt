@@ -1,5 +1,4 @@
--- What the functions on the form and the numbers of records require and ensure.
---   Checked ss n           n is 0 if every stage of ss is passed, else the number of the first cause
+-- What the functions on the numbers of records require and ensure.
 --   AllBelow p ns          every number of ns is below p
 --   Word s i n             n is the four-byte number at place i of s; 0 if it is not whole
 --   ValueOf s r            r has the kind and the numbers of s, 0 for a number that s has not
@@ -13,12 +12,7 @@ use Rattle.layout.specs.Layout.{number2, number4}
 use Rattle.equation.specs.declared.Equation.{Equation}
 use Rattle.basis.specs.Divisor.{numbers-of}
 use Rattle.basis.specs.declared.Divisor.{Divisor}
-use Rattle.record.specs.Cause.{Stage, FirstCause, Passes}
 use Rattle.record.specs.Curve.{modulus, coefficient-number}
-
-pub record Checked (ss : List Stage) (n : ℕ) : Type 0 where
-  pub passes : n ≡ 0 → Passes ss
-  pub cause : ¬ (n ≡ 0) → FirstCause ss n
 
 abbrev pub AllBelow : ℕ → List ℕ → Type 0
 AllBelow p [] = Unit

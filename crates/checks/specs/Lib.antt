@@ -1,2 +1,2 @@
--- What the functions on the form and the numbers of records require and ensure.
+-- What the functions on the numbers of records require and ensure.
 pub mod Contract

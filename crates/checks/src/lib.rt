@@ -1,4 +1,4 @@
-// Curve and divisor records in bytes: their form, their numbers by value, and whether these are below p. specs/ says what is checked.
+// Curve and divisor records in bytes: their numbers by value, and whether these are below p. specs/ says what is checked.
 use basis::Divisor;
 use equation::Equation;
 ghost use mathlib.Core.Path.{_≡_};
@@ -6,24 +6,7 @@ ghost use mathlib.Core.List.{[], _∷_};
 ghost use Prim.Native.Nat.{ℕ, _<_, _≤_};
 ghost use Rattle.algebra.specs.Answers.{Answers};
 ghost use Rattle.basis.specs.Divisor.{numbers-of};
-ghost use Rattle.record.specs.Cause.{Sized};
-ghost use Rattle.record.specs.Curve.{curve-form};
-ghost use Rattle.record.specs.Divisor.{divisor-form};
-ghost use Rattle.checks.specs.Contract.{Checked, AllBelow, Word, ValueOf, coefficient-of, equation-value};
-
-// Is the length field that of the bytes given?
-fn sized(s: &[u8]) -> bool
-    ensures { λ r. ⌜ Answers (Sized (now (s .entry))) r ⌝ }
-{
-    if s.len() < 4 {
-        return false;
-    }
-    let own = layout::read_u16(s, 0) as usize;
-    if own == s.len() {
-        return true;
-    }
-    false
-}
+ghost use Rattle.checks.specs.Contract.{AllBelow, Word, ValueOf, coefficient-of, equation-value};
 
 // Are the three numbers below p?
 fn three_below(p: u32, a: u32, b: u32, c: u32) -> bool
@@ -39,23 +22,6 @@ fn three_below(p: u32, a: u32, b: u32, c: u32) -> bool
         return false;
     }
     true
-}
-
-// The refusal of a curve for its size, its kind or its kind's length; 0 for none.
-pub fn curve_form(s: &[u8]) -> u8
-    ensures { λ r. ⌜ Checked (curve-form (now (s .entry))) r ⌝ }
-{
-    if !sized(s) {
-        return 1;
-    }
-    let kind = layout::read_u16(s, 2);
-    if kind != 34 {
-        return 2;
-    }
-    if s.len() != 44 {
-        return 1;
-    }
-    0
 }
 
 // The equation of a curve's bytes.
@@ -89,24 +55,6 @@ pub fn coefficients_below(e: Equation) -> bool
         return false;
     }
     three_below(e.p, e.c6, e.c7, e.c8)
-}
-
-// The refusal of a divisor for its size, its kind or its kind's length; 0 for none.
-pub fn divisor_form(s: &[u8]) -> u8
-    ensures { λ r. ⌜ Checked (divisor-form (now (s .entry))) r ⌝ }
-{
-    if !sized(s) {
-        return 6;
-    }
-    let code = layout::read_u16(s, 2);
-    if !kind::is_kind(code) {
-        return 7;
-    }
-    let size = 4 + 4 * kind::count_of(code);
-    if s.len() != size {
-        return 6;
-    }
-    0
 }
 
 // The four-byte number at place `at`, 0 if it is not whole.

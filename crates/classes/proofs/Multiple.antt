@@ -9,7 +9,8 @@ use lib.ListN.{replicate}
 use lib.IntN.{ℤ, pos, negsuc}
 use Rattle.ground.specs.declared.Ground.{Ground}
 use Rattle.basis.specs.declared.Divisor.{Divisor}
-use Rattle.group.specs.Contract.{NegativeAsked, NegativeOf, MultipleOf}
+use Rattle.group.specs.Contract.{NegativeAsked, NegativeOf}
+use Rattle.multiples.specs.Copies.{MultipleOf}
 use Rattle.reader.specs.Reading.{GivenOn}
 use Rattle.calls.specs.Class.{IsListSum, IsMultiple}
 use Rattle.whole.specs.Whole.{SignOf}

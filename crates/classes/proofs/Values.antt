@@ -18,7 +18,8 @@ use Rattle.ideal.proofs.Star.{star-same, reduced-same}
 use Rattle.layout.specs.Layout.{Bytes}
 use Rattle.ground.specs.declared.Ground.{Ground}
 use Rattle.basis.specs.declared.Divisor.{Divisor}
-use Rattle.group.specs.Contract.{IsDivisor, ideal, NegativeAsked, NegativeOf, SumAsked, SumOf, copies, IsCopies, MultipleOf}
+use Rattle.group.specs.Contract.{IsDivisor, ideal, NegativeAsked, NegativeOf, SumAsked, SumOf}
+use Rattle.multiples.specs.Copies.{copies, IsCopies, MultipleOf}
 use Rattle.record.specs.Curve.{AcceptedCurve, setting-of}
 use Rattle.reader.specs.Reading.{On, GivenOn}
 use Rattle.record.specs.Value.{bytes-of}

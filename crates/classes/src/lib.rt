@@ -78,9 +78,9 @@ fn multiple_of(g: Ground, x: Divisor, n: i64) -> Divisor
 {
     let size = whole::size_of(n);
     match size {
-        Whole::Up(m) => group::multiple(g, x, m),
+        Whole::Up(m) => multiples::multiple(g, x, m),
         Whole::Down(m) => {
-            let r = group::multiple(g, x, m);
+            let r = multiples::multiple(g, x, m);
             group::negative(g, r)
         }
     }

@@ -28,7 +28,8 @@ use Rattle.nonsingular.specs.Nonsingular.{Nonsingular}
 use Rattle.nonsingular.specs.Derivative.{derivative-x, derivative-y}
 use Rattle.nonsingular.proofs.Nonsingular.{nonsingular}
 use Rattle.vector.specs.Vector.{element, y-to}
-use Rattle.multiplication.specs.Contract.{RowsOf, YMultiples}
+use Rattle.terms.specs.Contract.{RowsOf}
+use Rattle.multiplication.specs.Contract.{YMultiples}
 use Rattle.triple.specs.Setting as setting
 use Rattle.triple.specs.Setting.{Setting, poles-of}
 use Rattle.triple.specs.Triple.{elements, Spanned}

@@ -3,4 +3,3 @@ pub mod Element
 pub mod Invert
 pub mod Sums
 pub mod Products
-pub mod Euclid

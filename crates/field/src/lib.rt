@@ -1,8 +1,7 @@
 // Arithmetic modulo p on numbers below p, for every p below 2^32. Each function ensures that its result is below p and
 // what its residue is in the ring Z p.
 ghost use Rattle.field.specs.Residue.{Z, el};
-ghost use Rattle.field.specs.Contract.{Below₁, Below₂, Below₃, Invertible, Is};
-ghost use Rattle.field.specs.Inverse.{inverse as inv};
+ghost use Rattle.field.specs.Contract.{Below₁, Below₂, Below₃, Is};
 
 // a + b
 pub fn add(p: u32, a: u32, b: u32) -> u32
@@ -51,31 +50,4 @@ pub fn mul_sub(p: u32, a: u32, b: u32, c: u32) -> u32
     ensures { λ r. ⌜ Is p r (Z p .add (el p c) (Z p .neg (Z p .mul (el p a) (el p b)))) ⌝ }
 {
     (((a as u64) * ((p - b) as u64) + (c as u64)) % (p as u64)) as u32
-}
-
-// a⁻¹ for a prime p, and 0 for a = 0: Euclid's algorithm, two divisions a turn. In each turn r0·t1 + r1·t0 = p, and
-// modulo p t0·a = −r0 and t1·a = r1.
-pub fn inverse(p: u32, a: u32) -> u32
-    requires { ⌜ Invertible p a ⌝ }
-    ensures { λ r. ⌜ Is p r (inv p (el p a)) ⌝ }
-{
-    if a == 0 {
-        return 0;
-    }
-    let mut r0 = p;
-    let mut r1 = a;
-    let mut t0: u32 = 0;
-    let mut t1: u32 = 1;
-    while r1 != 1 {
-        let q = r0 / r1;
-        r0 = r0 % r1;
-        t0 = t0 + q * t1;
-        if r0 == 1 {
-            return p - t0;
-        }
-        let s = r1 / r0;
-        r1 = r1 % r0;
-        t1 = t1 + s * t0;
-    }
-    t1
 }

@@ -13,7 +13,7 @@ fn inverse(p: u32, a: u32) {
     if !prime::is_prime(p) {
         return;
     }
-    number(field::inverse(p, a));
+    number(inversion::inverse(p, a));
 }
 
 fn line(p: u32, a: u32, b: u32, c: u32) {

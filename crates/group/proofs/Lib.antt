@@ -2,4 +2,3 @@
 pub mod Divisor
 pub mod Stars
 pub mod Sums
-pub mod Copies

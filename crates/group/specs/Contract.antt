@@ -4,15 +4,12 @@
 --   NegativeAsked, NegativeOf      negative: the ideal of the result is I*
 --   SumAsked, SumOf                sum: it is the reduced ideal of the product
 --   ProductStarOf                  product_star: it is J*, for the product J
---   copies S a D m                 the product of m copies of the ideal of a
---   IsCopies S a D m r           r is a divisor, and its ideal is equivalent to that product
---   MultipleOf                     multiple: the result is such a divisor
 --   ZeroClass r                    zero_class: kind 0, and no number
 use mathlib.Core.Path.{_≡_}
 use Prim.Native.Nat.{ℕ}
 use lib.ListN.{replicate}
 use Rattle.algebra.specs.Ring.{CommRing}
-use Rattle.ideal.specs.Ideal.{Product, ProductOf, Equivalent}
+use Rattle.ideal.specs.Ideal.{Product}
 use Rattle.ideal.specs.Reduced.{IsStar, IsReduced}
 use Rattle.divisor.specs.Kind.{Kind, IdealOf}
 use Rattle.triple.specs.Setting.{Setting, ring, poles-of}
@@ -54,16 +51,6 @@ ProductStarOf g a b r =
     (A : SumAsked g a b) →
     let S = A .grounded .ready .setting in
     (D : IsDivisor S r) × IsStar (poles-of S) (Product (ring S) (ideal S a (A .a-is)) (ideal S b (A .b-is))) (ideal S r D)
-
--- the product of m copies
-abbrev pub copies : {p : ℕ} (S : Setting p) (a : Divisor) → IsDivisor S a → ℕ → ring S .Car → Type 0
-copies S a D m = ProductOf (ring S) (λ (_ : Unit {0}). ideal S a D) (replicate m tt)
-
-abbrev pub IsCopies : {p : ℕ} (S : Setting p) (a : Divisor) → IsDivisor S a → ℕ → Divisor → Type 0
-IsCopies S a D m r = (E : IsDivisor S r) × Equivalent (ring S) (copies S a D m) (ideal S r E)
-
-abbrev pub MultipleOf : (g : Ground) (a : Divisor) (m : ℕ) (r : Divisor) → Type 0
-MultipleOf g a m r = (A : NegativeAsked g a) → IsCopies (A .grounded .ready .setting) a (A .a-is) m r
 
 pub record ZeroClass (r : Divisor) : Type 0 where
   pub kind : r .kind ≡ 0

@@ -1,2 +1,2 @@
--- Sums, negatives and multiples of divisors by value.
+-- Sums and negatives of divisors by value.
 pub mod Contract

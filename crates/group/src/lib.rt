@@ -1,7 +1,7 @@
-// Sums, negatives and multiples of divisors by value, on the ground of a curve.
+// Sums and negatives of divisors by value, on the ground of a curve.
 use basis::Divisor;
 use ground::Ground;
-ghost use Rattle.group.specs.Contract.{NegativeAsked, NegativeOf, SumAsked, SumOf, ProductStarOf, MultipleOf, ZeroClass};
+ghost use Rattle.group.specs.Contract.{NegativeAsked, NegativeOf, SumAsked, SumOf, ProductStarOf, ZeroClass};
 
 // I*, for the ideal I of a.
 pub fn negative(g: Ground, a: Divisor) -> Divisor
@@ -44,28 +44,6 @@ fn product_star(g: Ground, a: Divisor, b: Divisor) -> Divisor
     let mut d = [0usize; 3];
     product::product(g.p, &g.cube, &t1, &d1, &t2, &d2, &mut t, &mut d);
     star::star(g, &t, &d)
-}
-
-// The multiple of a by m, by doubling and adding: r + n·b stays the multiple, and n halves.
-pub fn multiple(g: Ground, a: Divisor, m: u64) -> Divisor
-    requires { ⌜ NegativeAsked g a ⌝ }
-    ensures { λ r. ⌜ MultipleOf g a m r ⌝ }
-{
-    let mut r = zero_class();
-    let mut b = a;
-    let mut n = m;
-    while 0 < n {
-        if n % 2 == 1 {
-            let s = sum(g, r, b);
-            r = s;
-        }
-        n = n / 2;
-        if 0 < n {
-            let c = sum(g, b, b);
-            b = c;
-        }
-    }
-    r
 }
 
 // The zero class.

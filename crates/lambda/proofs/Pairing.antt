@@ -16,7 +16,7 @@ use Rattle.curve.specs.Curve.{Curve, Coordinate}
 use Rattle.curve.specs.Monomial.{power, mono}
 use Rattle.vector.specs.Vector.{row, x-to}
 use Rattle.vector.specs.Contract.{pairing}
-use Rattle.multiplication.specs.Contract.{RowsOf}
+use Rattle.terms.specs.Contract.{RowsOf}
 use Rattle.functional.proofs.Pairing.{apply-pairing, shifted-mono}
 use Rattle.lambda.specs.declared.Pose.{Pose}
 use Rattle.lambda.specs.Lambda.{Λ, ValueAsked, Valued, ValueAtAsked, ValueAt}

@@ -18,7 +18,7 @@ use Rattle.curve.specs.Sequence.{coefficient, twist}
 use Rattle.curve.specs.Monomial.{power, monomial, mono, Below}
 use Rattle.curve.proofs.Filtration.{coefficient-below}
 use Rattle.vector.specs.Vector.{Vec, Top, at, res, row, element, width}
-use Rattle.multiplication.specs.Contract.{RowsOf}
+use Rattle.terms.specs.Contract.{RowsOf}
 use Rattle.vector.proofs.Loop.{vec-set, zeros-at}
 use Rattle.vector.proofs.Loop.{zeros-vec}
 use Rattle.vector.proofs.Element.{element-coefficient}

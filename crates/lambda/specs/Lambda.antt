@@ -15,7 +15,7 @@ use Rattle.curve.specs.Curve.{Curve, Coordinate}
 use Rattle.curve.specs.Sequence.{coefficient, twist}
 use Rattle.curve.specs.Monomial.{mono}
 use Rattle.vector.specs.Vector.{Vec, at, res, element, x-to, width}
-use Rattle.multiplication.specs.Contract.{Rows, RowsOf}
+use Rattle.terms.specs.Contract.{Rows, RowsOf}
 use Rattle.functional.specs.Functional.{apply, Functional}
 use Rattle.ground.specs.Ground.{Unit-of}
 use Rattle.lambda.specs.declared.Pose.{Pose}

@@ -26,7 +26,7 @@ use Rattle.vector.specs.Contract.{Added, AxpyAsked}
 use Rattle.multiplication.specs.Contract.{Shifted, Cube, TimesYAsked, TimesY}
 use Rattle.curve.proofs.Monomial.{at-y-0-straight, at-y-1-straight, at-y-2-straight}
 use Rattle.vector.proofs.Element.{element-at, added-value}
-use Rattle.multiplication.proofs.Portion.{portion, portion-in, portion-out, portion-all, portion-step}
+use Rattle.terms.proofs.Portion.{portion, portion-in, portion-out, portion-all, portion-step}
 
 abbrev pub Reached : ℕ → ℕ → Type 0
 Reached n m = (m % 3 < 2) ⊎ (m < n)

@@ -1,6 +1,4 @@
 -- What the loops on multiples of vectors do, and what that means for the elements that the vectors stand for.
-pub mod Entry
 pub mod Shift
-pub mod Portion
 pub mod ByY
 pub mod Powers

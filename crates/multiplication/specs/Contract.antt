@@ -1,18 +1,17 @@
 -- What the functions on multiples of vectors by powers of y require and ensure.
 --   Cube p C y3               y3 is the vector of y³
 --   TimesYAsked, TimesY       times_y: y·v
---   Rows p ys top             three vectors, the j-th below top + 4·j
---   RowsOf p C ys g           … which stand for g, y·g and y²·g
 --   YMultiplesAsked, YMultiples       y_multiples: v, y·v and y²·v
 --   ShiftAsked, Shifted       shift_y: v[n] at the place n + 4, for each n of the classes 0 and 1 modulo 3
 use mathlib.Core.Path.{_≡_}
 use mathlib.Core.List.{List}
-use Prim.Native.Nat.{ℕ, _+_, _*_, _%_, _<_, _≤_}
+use Prim.Native.Nat.{ℕ, _+_, _%_, _<_, _≤_}
 use lib.ListN.{length}
 use Rattle.algebra.specs.Ring.{CommRing}
 use Rattle.field.specs.Residue.{Z}
 use Rattle.curve.specs.Curve.{Curve, Coordinate, y}
-use Rattle.vector.specs.Vector.{Vec, Top, at, row, element, y-to, width}
+use Rattle.vector.specs.Vector.{Vec, Top, at, element, width}
+use Rattle.terms.specs.Contract.{Rows, RowsOf}
 
 -- y3 is the vector of y³
 pub record Cube (p : ℕ) (C : Curve (Z p)) (y3 : List ℕ) : Type 0 where
@@ -36,16 +35,6 @@ pub record YMultiplesAsked (p : ℕ) (y3 v : List ℕ) (top : ℕ) : Type 0 wher
   pub v-vec : Vec p v
   pub v-top : Top v top
   pub room : top ≤ 18
-
--- three vectors, the j-th below top + 4·j
-pub record Rows (p : ℕ) (ys : List (List ℕ)) (top : ℕ) : Type 0 where
-  pub len : length ys ≡ 3
-  pub vec : (j : ℕ) → j < 3 → Vec p (row ys j)
-  pub tops : (j : ℕ) → j < 3 → Top (row ys j) (top + 4 * j)
-
--- the j-th vector is y^j·g
-pub record RowsOf (p : ℕ) (C : Curve (Z p)) (ys : List (List ℕ)) (g : Coordinate C .Car) : Type 0 where
-  pub is : (j : ℕ) → j < 3 → element p C (row ys j) ≡ Coordinate C .mul (y-to p C j) g
 
 pub record YMultiples (p : ℕ) (y3 v : List ℕ) (top : ℕ) (ys : List (List ℕ)) : Type 0 where
   pub rows : Rows p ys top

@@ -1,8 +1,5 @@
 // Multiples of a vector v by powers of y: y·v and y²·v, by the vector of y³. Loops end at the degree.
-pub mod normal;
-
 ghost use Rattle.multiplication.specs.Contract.{TimesYAsked, TimesY, YMultiplesAsked, YMultiples, ShiftAsked, Shifted};
-use crate::normal::Y_POWER;
 
 // y·v for v below top, where cube is y³.
 pub fn times_y(p: u32, cube: &[u32; 26], v: &[u32; 26], top: usize) -> [u32; 26]
@@ -33,7 +30,7 @@ fn shift_y(v: &[u32; 26], top: usize) -> [u32; 26]
     requires { ⌜ ShiftAsked (now v) top ⌝ }
     ensures { λ r. ⌜ Shifted (now (v .entry)) top r ⌝ }
 {
-    let powers = Y_POWER;
+    let powers = terms::normal::Y_POWER;
     let mut out = [0u32; 26];
     let mut n = 0;
     while n < top {

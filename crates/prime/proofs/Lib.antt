@@ -1,5 +1,3 @@
--- Laws of primes, and of the trial division by a table of inverses.
+-- Laws of primes.
 pub mod Primes
-pub mod Cofactor
-pub mod Walk
 pub mod Answer

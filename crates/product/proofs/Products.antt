@@ -21,7 +21,8 @@ use Rattle.ideal.proofs.Generated.{products, products-source}
 use Rattle.ideal.proofs.Same.{same-sym, same-trans}
 use Rattle.ideal.proofs.Span.{Span, span-each, span-product, span-same}
 use Rattle.vector.specs.Vector.{at, row, element, width}
-use Rattle.multiplication.specs.Contract.{RowsOf, YMultiplesAsked, YMultiples}
+use Rattle.terms.specs.Contract.{RowsOf}
+use Rattle.multiplication.specs.Contract.{YMultiplesAsked, YMultiples}
 use Rattle.triple.specs.Setting.{Setting, ring, poles-of, Ready}
 use Rattle.triple.specs.Triple.{Triple, elements, Spanned, listed}
 use Rattle.triple.specs.Contract.{InsertAsked, Inserted}
@@ -30,7 +31,8 @@ use Rattle.triple.proofs.Members.{each-row, row-each}
 use Rattle.triple.proofs.Leads.{full-of, spanned-lead}
 use Rattle.triple.proofs.Listed.{listed-each, listed-at, listed-rest, span-cons, listed-same}
 use Rattle.triple.proofs.Empty.{no-rows, no-degrees, empty-triple, empty-same}
-use Rattle.product.specs.Contract.{ProductAsked, Multiplied, PutAsked, ProductsPut, TimesAsked, Times}
+use Rattle.product.specs.Contract.{ProductAsked, Multiplied, PutAsked, ProductsPut}
+use Rattle.terms.specs.Contract.{TimesAsked, Times}
 
 module _ {R : CommRing} (P : Poles R) where
   every-products : (Q : R .Car → Type 0) (gs hs : List (R .Car)) → Every (λ g. Every (λ h. Q (R .mul g h)) hs) gs → Every Q (products R gs hs)

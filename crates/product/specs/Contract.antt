@@ -1,18 +1,14 @@
--- What the functions on products require and ensure. Where a contract speaks of the ring it does so for every setting or curve.
+-- What the functions on products of spans require and ensure. Where a contract speaks of the ring it does so for every setting.
 --   ProductAsked, Multiplied     product: the span is the product ideal
 --   PutAsked, ProductsPut        insert_products: the span afterwards is that of the triple and the products
---   TimesAsked, Times            times: b·g from the y-multiples of g
-use mathlib.Core.Path.{_≡_}
 use mathlib.Core.List.{List}
-use Prim.Native.Nat.{ℕ, _+_, _-_, _≤_}
+use Prim.Native.Nat.{ℕ, _≤_}
 use Rattle.algebra.specs.Ring.{CommRing}
 use Rattle.prime.specs.Prime.{Prime}
 use Rattle.ideal.specs.Ideal.{SameIdeal, Product}
 use Rattle.ideal.proofs.Span.{Span}
-use Rattle.curve.specs.Curve.{Curve, Coordinate}
-use Rattle.field.specs.Residue.{Z}
-use Rattle.vector.specs.Vector.{Vec, Top, row, width, element}
-use Rattle.multiplication.specs.Contract.{Rows, RowsOf}
+use Rattle.vector.specs.Vector.{row, element}
+use Rattle.terms.specs.Contract.{Rows, RowsOf}
 use Rattle.triple.specs.Setting.{Setting, ring, poles-of, Ready}
 use Rattle.triple.specs.Triple.{Triple, Full, elements, Spanned, listed}
 use Rattle.span.specs.Contract.{Small}
@@ -43,15 +39,3 @@ pub record ProductsPut (p : ℕ) (t₁ ys t t′ : List (List ℕ)) (d′ : List
   pub same :
       (S : Setting p) (g : ring S .Car) → RowsOf p (S .curve) ys g →
       SameIdeal (ring S) (Spanned S t′) (Span (poles-of S) (listed (λ i. ring S .mul (element p (S .curve) (row t₁ i)) g) 3 (elements S t)))
-
-pub record TimesAsked (p : ℕ) (b : List ℕ) (e : ℕ) (ys : List (List ℕ)) (top : ℕ) : Type 0 where
-  pub b-vec : Vec p b
-  pub b-top : Top b e
-  pub rows : Rows p ys top
-  pub inside : e ≤ width
-  pub room : e + top ≤ 27
-
-pub record Times (p : ℕ) (b : List ℕ) (e : ℕ) (ys : List (List ℕ)) (top : ℕ) (r : List ℕ) : Type 0 where
-  pub vec : Vec p r
-  pub top-out : Top r (e + top - 1)
-  pub value : (C : Curve (Z p)) (g : Coordinate C .Car) → RowsOf p C ys g → element p C r ≡ Coordinate C .mul (element p C b) g

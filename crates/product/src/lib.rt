@@ -1,8 +1,5 @@
-// Products: of two vectors from the y-multiples of one, and of the spans of two triples.
-mod normal;
-
-ghost use Rattle.product.specs.Contract.{ProductAsked, Multiplied, PutAsked, ProductsPut, TimesAsked, Times};
-use crate::normal::X_POLE;
+// The product of the spans of two triples.
+ghost use Rattle.product.specs.Contract.{ProductAsked, Multiplied, PutAsked, ProductsPut};
 
 // The triple (t, d) becomes that of the product of two triples' spans. The products with the second triple's member of
 // class 0 come first: they are monic and fill the three classes.
@@ -46,27 +43,8 @@ fn insert_products(
     let mut i = 0;
     while i < 3 {
         let e = d1[i];
-        let mut v = times(p, &t1[i], e + 1, ys, top);
+        let mut v = terms::times(p, &t1[i], e + 1, ys, top);
         triple::insert(p, t, d, &mut v, e + top);
         i += 1;
     }
-}
-
-// b·g for b below e, from the vectors g, y·g and y²·g, the first of them below top.
-fn times(p: u32, b: &[u32; 26], e: usize, ys: &[[u32; 26]; 3], top: usize) -> [u32; 26]
-    requires { ⌜ TimesAsked p (now b) e (now ys) top ⌝ }
-    ensures { λ r. ⌜ Times p (now (b .entry)) e (now (ys .entry)) top r ⌝ }
-{
-    let powers = multiplication::normal::Y_POWER;
-    let poles = X_POLE;
-    let mut out = [0u32; 26];
-    let mut n = 0;
-    while n < e {
-        let j = powers[n] as usize;
-        if j < 3 {
-            vector::axpy(p, &mut out, b[n], &ys[j], poles[n] as usize, top + 4 * j);
-        }
-        n += 1;
-    }
-    out
 }

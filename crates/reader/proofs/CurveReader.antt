@@ -9,7 +9,6 @@ use mathlib.Core.Logic.{inl, inr}
 use mathlib.Core.List.{List}
 use Prim.Native.Nat.{ℕ, _<_}
 use native.Mathlib.Omega.{arith}
-use Rattle.algebra.specs.Ring.{CommRing}
 use Rattle.prime.specs.Prime.{Prime}
 use Rattle.field.specs.Residue.{Z, el}
 use Rattle.field.proofs.Element.{el-one}
@@ -19,7 +18,8 @@ use Rattle.equation.specs.Equation.{curve-of, Coefficients}
 use Rattle.equation.specs.declared.Equation.{Equation}
 use Rattle.record.specs.Cause.{Stage, FirstCause}
 use Rattle.record.specs.Curve.{modulus, coefficient-number, equation, curve-rest}
-use Rattle.checks.specs.Contract.{Checked, coefficient-of, equation-value}
+use Rattle.form.specs.Contract.{Checked}
+use Rattle.checks.specs.Contract.{coefficient-of, equation-value}
 use Rattle.checks.proofs.Answer.{nine}
 use Rattle.reader.specs.Contract.{equation-stages}
 

@@ -12,7 +12,6 @@ use Prim.Native.Nat.{ℕ, _+_, _*_, _<_, _≤_}
 use native.Mathlib.Omega.{arith}
 use native.Mathlib.Decide.{decLt}
 use lib.ListN.{length, getD, take, List·getD-eq-default}
-use Rattle.algebra.specs.Ring.{CommRing}
 use Rattle.prime.specs.Prime.{Prime}
 use Rattle.field.specs.Residue.{Z, el}
 use Rattle.curve.specs.Curve.{Curve}

@@ -4,7 +4,7 @@ use equation::Equation;
 use ground::Ground;
 ghost use mathlib.Core.Path.{_≡_};
 ghost use Rattle.ground.specs.Ground.{Grounded, AtGround};
-ghost use Rattle.checks.specs.Contract.{Checked};
+ghost use Rattle.form.specs.Contract.{Checked};
 ghost use Rattle.reader.specs.Contract.{WriteAsked, WriteAnswer, equation-stages};
 ghost use Rattle.reader.specs.Reading.{CurveRead, DivisorRead, TwoRead, NextRead};
 
@@ -63,7 +63,7 @@ fn equation_cause(e: Equation) -> u8
 pub fn read_curve(s: &[u8]) -> CurveAnswer
     ensures { λ r. ⌜ CurveRead (now (s .entry)) r ⌝ }
 {
-    let form = checks::curve_form(s);
+    let form = form::curve_form(s);
     if form != 0 {
         return CurveAnswer::Refused(form);
     }
@@ -80,7 +80,7 @@ pub fn read_divisor(g: Ground, s: &[u8]) -> DivisorAnswer
     requires { ⌜ Grounded g ⌝ }
     ensures { λ r. ⌜ AtGround g (λ p C. DivisorRead p C (now (s .entry)) r) ⌝ }
 {
-    let form = checks::divisor_form(s);
+    let form = form::divisor_form(s);
     if form != 0 {
         return DivisorAnswer::Refused(form);
     }

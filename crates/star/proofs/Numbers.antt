@@ -12,7 +12,7 @@ use Rattle.ideal.specs.Poles.{largest-gap}
 use Rattle.curve.specs.Curve.{Curve, Coordinate}
 use Rattle.curve.specs.Monomial.{mono}
 use Rattle.curve.specs.Sequence.{twist}
-use Rattle.multiplication.specs.Contract.{RowsOf}
+use Rattle.terms.specs.Contract.{RowsOf}
 use Rattle.ground.specs.Ground.{Unit-of}
 use Rattle.lambda.specs.declared.Pose.{Pose}
 use Rattle.lambda.specs.Lambda.{Λ, ValueAt, Opposite, OppositeOf}

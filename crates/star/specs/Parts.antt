@@ -18,7 +18,7 @@ use Rattle.curve.specs.Curve.{Curve, Coordinate}
 use Rattle.curve.specs.Monomial.{mono}
 use Rattle.curve.specs.Sequence.{twist}
 use Rattle.vector.specs.Vector.{x-to}
-use Rattle.multiplication.specs.Contract.{Rows, RowsOf}
+use Rattle.terms.specs.Contract.{Rows, RowsOf}
 use Rattle.ground.specs.Ground.{Unit-of}
 use Rattle.basis.specs.Divisor.{of-four}
 use Rattle.basis.specs.declared.Divisor.{Divisor}

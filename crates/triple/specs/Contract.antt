@@ -11,7 +11,7 @@ use Rattle.prime.specs.Prime.{Prime}
 use Rattle.ideal.specs.Ideal.{SameIdeal}
 use Rattle.ideal.proofs.Span.{Span}
 use Rattle.vector.specs.Vector.{Vec, Top, at, width, element}
-use Rattle.multiplication.specs.Contract.{Rows}
+use Rattle.terms.specs.Contract.{Rows}
 use Rattle.triple.specs.Setting.{Setting, ring, poles-of}
 use Rattle.triple.specs.Triple.{Triple, elements, Spanned}
 

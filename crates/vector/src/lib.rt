@@ -41,7 +41,7 @@ pub fn make_monic(p: u32, v: &mut [u32; 26], m: usize)
 {
     let lead = v[m];
     if lead != 1 {
-        let c = field::inverse(p, lead);
+        let c = inversion::inverse(p, lead);
         scale(p, v, c, m);
         v[m] = 1;
     }

@@ -4,7 +4,7 @@ use mathlib.Core.Logic.{⊎-elim}
 use Prim.Native.Nat.{_≤_, _-_}
 use native.Mathlib.Omega.{arith}
 use borrow.Author.Needs.{needs}
-use Rattle.multiplication.proofs.Entry.{entry-moved, entry-dropped}
+use Rattle.terms.proofs.Entry.{entry-moved, entry-dropped}
 use Rattle.multiplication.proofs.Shift.{shifted-start, shifted-more, shifted-skip, shifted-as, shifted-end}
 use Rattle.multiplication.specs.Contract.{Shifted}
 use Rattle.multiplication.proofs.shift_y.Statement.{statement}

@@ -4,7 +4,7 @@ use mathlib.Core.Path.{refl}
 use mathlib.Core.Logic.{inl, inr}
 use native.Mathlib.Omega.{arith}
 use borrow.Author.Tests.{not-true, not-false}
-use Rattle.checks.proofs.Answer.{checked-none, checked-cause}
+use Rattle.form.proofs.Answer.{checked-none, checked-cause}
 use Rattle.reader.proofs.CurveReader.{one-nonzero, below-coefficients}
 use Rattle.reader.proofs.equation_cause.Statement.{statement}
 use Rattle.reader.proofs.equation_cause.Tie as tie

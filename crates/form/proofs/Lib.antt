@@ -1,0 +1,2 @@
+-- Why the functions on the form of records find what they find.
+pub mod Answer

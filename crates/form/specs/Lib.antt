@@ -1,0 +1,2 @@
+-- What the functions on the form of records ensure.
+pub mod Contract

@@ -1,0 +1,2 @@
+-- Doubling and adding.
+pub mod Copies

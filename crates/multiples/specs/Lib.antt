@@ -1,0 +1,2 @@
+-- Multiples of divisors by value.
+pub mod Copies

@@ -1,0 +1,2 @@
+-- The product of two vectors.
+pub mod Contract
