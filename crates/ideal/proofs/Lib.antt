@@ -17,3 +17,5 @@ pub mod Finite
 pub mod Star
 pub mod Span
 pub mod Triple
+pub mod Parts
+pub mod Invertible
