@@ -1,5 +1,6 @@
 -- The equation of the curve holds in its coordinate ring.
 --   F-at O x y a0 c0 … c8        the value of F at x and y, over any operations
+--   in-x-ascending, in-x-none    polynomials in x whose coefficients are listed, as elements
 --   curve-equation     F(x, y) = 0 in the coordinate ring
 use mathlib.Core.Path.{_≡_, _∙_, ap}
 use mathlib.Core.List.{List, [], _∷_}
@@ -25,13 +26,13 @@ module _ {k : CommRing} (C : Curve k) where
   infixl 60 _⊕_
   infixl 70 _⊗_
   infix 80 ⊖_
-  in-x-ascending : (c : k .Car) (cs : List (k .Car)) → in-x C (ascending k (c ∷ cs)) ≡ constant C c ⊕ x C ⊗ in-x C (ascending k cs)
+  pub in-x-ascending : (c : k .Car) (cs : List (k .Car)) → in-x C (ascending k (c ∷ cs)) ≡ constant C c ⊕ x C ⊗ in-x C (ascending k cs)
   unfolding ascending Coordinate in-x x constant
   in-x-ascending c cs =
       M.embed-add (Poly k) (t0 C) (t1 C) (t2 C) (const k c) (Poly k .mul (X k) (ascending k cs))
       ∙ ap (λ u. constant C c ⊕ u) (M.embed-mul (Poly k) (t0 C) (t1 C) (t2 C) (X k) (ascending k cs))
 
-  in-x-none : in-x C (ascending k []) ≡ 𝟎
+  pub in-x-none : in-x C (ascending k []) ≡ 𝟎
   unfolding ascending Coordinate in-x
   in-x-none = M.embed-zero (Poly k) (t0 C) (t1 C) (t2 C)
 

@@ -12,6 +12,7 @@
 --   terms-top                  … then terms ts has no coefficient from d on
 --   Within ps h, within-neg    h has no coefficient outside the places ps; nor has −h
 --   reading ps h, reading-terms    h at the places ps; h is the sum of these terms if it has no others
+--   terms-made                 terms ts is made of the monomials of its places
 --   made-within, within-made   MadeOf and Within say the same of the monomials of ps
 use mathlib.Core.Path.{_≡_, refl, sym, _∙_, ap, ap₂, subst}
 use mathlib.Core.Bool.{Bool, true, false, not}
@@ -169,7 +170,7 @@ module _ {k : CommRing} (C : Curve k) where
   reading-terms ps h t w =
       coefficient-ext C (λ m. coefficient-terms (reading ps h) (subst (λ (qs : List ℕ). T (distinct qs)) (sym (reading-places ps h)) t) m ∙ find-reading ps h m (w m))
 
-  terms-made : (ts : Terms) → MadeOf C (map (mono C) (places ts)) (terms ts)
+  pub terms-made : (ts : Terms) → MadeOf C (map (mono C) (places ts)) (terms ts)
   terms-made [] = refl
   terms-made ((a, p) ∷ ts) = (a, terms ts, terms-made ts, refl)
 

@@ -3,6 +3,7 @@
 --   normal-onto        each element of the coordinate ring is the normal form of a polynomial in x and y
 --   normal-kernel      a polynomial has the normal form 0 exactly if it is a multiple of F
 --   part-0 part-1 part-2           the parts of the element a + b·y + c·y²
+--   at-of-parts        the element of-parts C a b c is a + b·y + c·y²
 --   normal-quadratic   the normal form of the polynomial a + b·y + c·y² is the element of-parts C a b c
 use mathlib.Core.Path.{_≡_, sym, _∙_, ap, subst}
 use mathlib.Core.Logic.{_↔_}
@@ -92,7 +93,7 @@ module _ {k : CommRing} (C : Curve k) where
   unfolding Coordinate part
   part-zero j = M.component-zero (Poly k) (t0 C) (t1 C) (t2 C) j
 
-  at-of-parts : (a b c : Poly k .Car) → K.at-quadratic (over-x C) (y C) a b c ≡ of-parts C a b c
+  pub at-of-parts : (a b c : Poly k .Car) → K.at-quadratic (over-x C) (y C) a b c ≡ of-parts C a b c
   at-of-parts a b c =
       sym (λ i. K.at-quadratic (over-x C) (y C) (part-0 a b c i) (part-1 a b c i) (part-2 a b c i)) ∙ at-spread (of-parts C a b c)
 
