@@ -1,6 +1,7 @@
 -- The laws of records: refusals, values and bytes, uniqueness, lists.
 pub mod Cause
 pub mod Accepted
+pub mod Invertible
 pub mod Written
 pub mod Lists
 pub mod Unique
