@@ -9,7 +9,8 @@
 --   plus, minus, times the operations on normal forms; plus-con, times-con: with a constant; times-tail: with a form without x0
 --   norm e             the normal form of e
 --   is-zero h          whether the normal form h is zero everywhere
---   Same a b           the test, by computation, that norm a − norm b is zero everywhere; so a proof of it is tt
+--   same a b           the test, by computation, that norm a − norm b is zero everywhere
+--   Same a b           it passes; so a proof of it is tt
 use mathlib.Core.Bool.{Bool, true}
 use Prim.Native.Nat.{ℕ, zero, suc, _+_, _*_}
 use Rattle.algebra.proofs.Test.{both}
@@ -90,5 +91,8 @@ is-zero z = true
 is-zero (con p n) = eqb p n
 is-zero (cons h t) = both (is-zero h) (is-zero t)
 
+abbrev pub same : E → E → Bool
+same a b = is-zero (plus (norm a) (minus (norm b)))
+
 abbrev pub Same : E → E → Type 0
-Same a b = T (is-zero (plus (norm a) (minus (norm b))))
+Same a b = T (same a b)

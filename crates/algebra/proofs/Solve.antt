@@ -7,6 +7,7 @@
 -- (c) solve-from R n hs l r tt proves the same under hypotheses. hs lists them, each `given m a b` for the equation a ≡ b and the factor m
 --     with which it enters: l − r is the sum of m·(a − b). The proofs of the equations follow the values, as (e₁, (e₂, tt)).
 --   ⊞ ⊠ ⊟ ^^           sums, products, negatives and powers of expressions
+--   combine es qs      the sum of the products q·e of two lists, of those q that are there
 --   Fn, apply          functions of n expressions, and their values at variables
 --   Each               a statement about every list of n values
 --   Hyp, Hold          hypotheses, and that they hold; combined hs r: r and the sum of the m·(a − b)
@@ -16,8 +17,8 @@ use mathlib.Core.List.{List, [], _∷_}
 use Prim.Native.Nat.{ℕ, zero, suc}
 use Rattle.algebra.specs.Ring.{CommRing}
 use Rattle.algebra.proofs.Laws as L
-use Rattle.algebra.proofs.Norm.{E, var, sum, prod, opp, pow, Same}
-use Rattle.algebra.proofs.Sound.{value, same-value}
+use Rattle.algebra.proofs.Norm.{E, var, nil, sum, prod, opp, pow, Same}
+use Rattle.algebra.proofs.Sound.{head, tail, value, same-value}
 
 infixl 60 _⊞_
 infixl 70 _⊠_
@@ -34,6 +35,10 @@ abbrev pub ⊟_ : E → E
 
 abbrev pub _^^_ : E → ℕ → E
 a ^^ n = pow a n
+
+abbrev pub combine : List E → List E → E
+combine [] qs = nil
+combine (e ∷ es) qs = head nil qs ⊠ e ⊞ combine es (tail qs)
 
 -- functions of n expressions, with values in B
 abbrev pub Fn : Type 0 → ℕ → Type 0

@@ -3,6 +3,7 @@ pub mod Monomials
 pub mod Terms
 pub mod Table
 pub mod Members
+pub mod Over
 pub mod Divide
 pub mod Basis
 pub mod Star

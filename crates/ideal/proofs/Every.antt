@@ -4,7 +4,11 @@
 --   every-append       … of both lists, then of one after the other
 --   every-left, every-right    … and back
 --   every-image, every-source  Q of each φ x is Q of each element of map φ xs
+--   all f xs, all-every        the test f passes at each element of xs
+use mathlib.Core.Bool.{Bool, true}
 use mathlib.Core.List.{List, [], _∷_, _++_, map}
+use lib.Dec.{T}
+use Rattle.algebra.proofs.Test.{both, both-left, both-right}
 
 abbrev pub Every : {X : Type 0} → (X → Type 0) → List X → Type 0
 Every Q [] = Unit
@@ -34,3 +38,11 @@ module _ {X : Type 0} where
   pub every-source : {Y : Type 0} (Q : Y → Type 0) (φ : X → Y) (xs : List X) → Every Q (map φ xs) → Every (λ x. Q (φ x)) xs
   every-source Q φ [] _ = tt
   every-source Q φ (x ∷ xs) (q, qs) = (q, every-source Q φ xs qs)
+
+  abbrev pub all : (X → Bool) → List X → Bool
+  all f [] = true
+  all f (x ∷ xs) = both (f x) (all f xs)
+
+  pub all-every : (f : X → Bool) (xs : List X) → T (all f xs) → Every (λ x. T (f x)) xs
+  all-every f [] t = tt
+  all-every f (x ∷ xs) t = (both-left (f x) (all f xs) t, all-every f xs (both-right (f x) (all f xs) t))

@@ -7,7 +7,7 @@
 --   colon-sum                  (f : I + J) = (f : I) ∩ (f : J)
 --   colon-intersection         (f : I) + (f : J) = (f : I ∩ J) for based ideals I and J and f in both
 --   intersection-based         … and I ∩ J is based
-use mathlib.Core.Path.{_≡_, refl, sym, _∙_, ap, ap₂, subst}
+use mathlib.Core.Path.{_≡_, sym, _∙_, ap, ap₂, subst}
 use mathlib.Core.List.{List, _++_}
 use Prim.Native.Nat.{ℕ}
 use Rattle.algebra.specs.Ring.{CommRing}
@@ -16,7 +16,7 @@ use Rattle.ideal.specs.Ideal.{IsIdeal, Generated, Multiple, Colon, SameI
 use Rattle.ideal.specs.Poles.{Poles, HasPole}
 use Rattle.ideal.specs.Parts.{IdealSum, Intersection}
 use Rattle.ideal.proofs.Same.{same-sym, same-trans}
-use Rattle.ideal.proofs.Every.{Every, every-map, every-append, every-left, every-right}
+use Rattle.ideal.proofs.Every.{every-map, every-append, every-left, every-right}
 use Rattle.ideal.proofs.Leads.{based-same}
 use Rattle.ideal.proofs.Colon.{colon-ideal, colon-self, colon-same, colon-based, colon-colon}
 use Rattle.ideal.proofs.Generated.{generated-ideal, generated-each, generated-in}

@@ -1,32 +1,25 @@
 -- A certificate that f is in I·(f : I), I the ideal of a record and f its first polynomial, and the tests that it has to pass. The tests compute.
---   dot ms es              the sum of the products m·e of two lists
---   Relation, total κ r    multiples of the polynomials and of F; their sum, which has remaining monomials only, and so is zero on the curve
+--   Relation               multiples of the polynomials and of F whose sum has remaining monomials only, and so is zero on the curve
+--   multiple κ r, total κ r        the multiples of the polynomials, and with that of F; both are zero on the curve
 --   Quotient, Member       an element of (f : I), and for each polynomial g: g·element = f·quotient + multiples of what is zero
 --   Row                    f·F′ = the sum of (multiples of the polynomials)·element over the members + multiples of what is zero
 --   Certificate            the relations, the members, and a row for each derivative of F
 --   form κ i               the i-th polynomial of a record; f is form κ 0
 --   of-F, syzygy, over, own        relations with and without F, a quotient, and f as a member
---   totals, zeros          the totals of the relations; these and F, which are zero on the curve
+--   totals, zeros          the totals of the relations, and their multiples of the polynomials
 --   divides, combination   the test of a member; the sum of a row
---   all f xs, all-every    the test f passes at each element of xs
 --   member-test, row-test, valid   the tests of a certificate: of a member, of a row, all
 use mathlib.Core.Bool.{Bool, true, false}
 use mathlib.Core.List.{List, [], _∷_, _++_, map}
 use Prim.Native.Nat.{ℕ}
-use lib.Dec.{T}
 use lib.ListN.{getD}
-use Rattle.algebra.proofs.Norm.{E, nil, unit}
-use Rattle.algebra.proofs.Test.{both, both-left, both-right}
-use Rattle.algebra.proofs.Solve.{_⊞_, _⊠_, ⊟_}
-use Rattle.ideal.proofs.Every.{Every}
+use Rattle.algebra.proofs.Norm.{E, nil, unit, same}
+use Rattle.algebra.proofs.Test.{both}
+use Rattle.algebra.proofs.Solve.{_⊞_, _⊠_, ⊟_, combine}
+use Rattle.ideal.proofs.Every.{all}
 use Rattle.divisor.specs.Kind.{Kind}
 use Rattle.invertible.proofs.Formula.{F, derivative, forms}
-use Rattle.invertible.proofs.Vanish.{same, flat}
-
-abbrev pub dot : List E → List E → E
-dot [] es = nil
-dot (m ∷ ms) [] = nil
-dot (m ∷ ms) (e ∷ es) = m ⊠ e ⊞ dot ms es
+use Rattle.invertible.proofs.Vanish.{flat}
 
 pub record Relation : Type 0 where
   pub cofactors : List E
@@ -67,41 +60,36 @@ over q ms = record { quotient = q; rest = ms }
 abbrev pub own : Kind → Member
 own κ = record { element = form κ 0; quotients = map (λ g. over g []) (forms κ) }
 
+abbrev pub multiple : Kind → Relation → E
+multiple κ r = combine (forms κ) (r .cofactors)
+
 abbrev pub total : Kind → Relation → E
-total κ r = dot (r .cofactors) (forms κ) ⊞ r .factor ⊠ F
+total κ r = multiple κ r ⊞ r .factor ⊠ F
 
 -- w is in (f : I), for polynomials gs, their quotients, and what is zero on the curve
 abbrev pub divides : E → List E → E → List E → List Quotient → Bool
 divides f zs w [] qs = true
 divides f zs w (g ∷ gs) [] = false
-divides f zs w (g ∷ gs) (q ∷ qs) = both (same (g ⊠ w) (f ⊠ q .quotient ⊞ dot (q .rest) zs)) (divides f zs w gs qs)
+divides f zs w (g ∷ gs) (q ∷ qs) = both (same (g ⊠ w) (f ⊠ q .quotient ⊞ combine zs (q .rest))) (divides f zs w gs qs)
 
 abbrev pub combination : List E → List (List E) → List Member → E
 combination gs [] ms = nil
 combination gs (es ∷ ess) [] = nil
-combination gs (es ∷ ess) (m ∷ ms) = dot es gs ⊠ m .element ⊞ combination gs ess ms
-
-abbrev pub all : {X : Type 0} → (X → Bool) → List X → Bool
-all f [] = true
-all f (x ∷ xs) = both (f x) (all f xs)
-
-pub all-every : {X : Type 0} (f : X → Bool) (xs : List X) → T (all f xs) → Every (λ x. T (f x)) xs
-all-every f [] t = tt
-all-every f (x ∷ xs) t = (both-left (f x) (all f xs) t, all-every f xs (both-right (f x) (all f xs) t))
+combination gs (es ∷ ess) (m ∷ ms) = combine gs es ⊠ m .element ⊞ combination gs ess ms
 
 module _ (κ : Kind) (K : Certificate) where
   abbrev pub totals : List E
   totals = map (total κ) (K .relations)
 
   abbrev pub zeros : List E
-  zeros = F ∷ totals
+  zeros = map (multiple κ) (K .relations)
 
   abbrev pub member-test : Member → Bool
   member-test m = divides (form κ 0) zeros (m .element) (forms κ) (m .quotients)
 
   abbrev pub row-test : ℕ → Bool
   row-test v =
-      same (derivative v F ⊠ form κ 0) (combination (forms κ) (K .row v .multiples) (K .members) ⊞ dot (K .row v .rest) (zeros ++ map (derivative v) totals))
+      same (derivative v F ⊠ form κ 0) (combination (forms κ) (K .row v .multiples) (K .members) ⊞ combine (zeros ++ map (derivative v) totals) (K .row v .rest))
 
   abbrev pub valid : Bool
   valid = both (all (flat κ) totals) (both (all member-test (K .members)) (both (row-test 0) (row-test 1)))

@@ -1,18 +1,19 @@
 -- Formulas on a curve and a record, as expressions of the ring solver: polynomials in x, y and letters for the coefficients and numbers.
 --   x, y, a0, c i, n i     the letters: x, y, the curve's coefficients, the record's numbers
 --   _⊝_                    differences
---   F, slopes              the equation of the curve, and its derivatives by x and by y
+--   F                      the equation of the curve
 --   derivative v e         the formal derivative of e by the letter v
 --   origin e               e at x = y = 0
 --   forms κ                the polynomials of a record
-use mathlib.Core.List.{List, [], _∷_}
+use mathlib.Core.List.{List}
 use Prim.Native.Nat.{ℕ, zero, suc, _+_}
 use lib.Dec.{eqb}
 use Rattle.algebra.proofs.Norm.{E, var, num, nil, unit, sum, prod, opp, pow, E-ops}
 use Rattle.algebra.proofs.Solve.{_⊞_, _⊠_, ⊟_, _^^_}
 use Rattle.curve.specs.Sequence.{pick}
 use Rattle.curve.proofs.Equation.{F-at}
-use Rattle.divisor.specs.Kind.{Kind, k0, k11, k21, k22, k31}
+use Rattle.divisor.specs.Kind.{Kind}
+use Rattle.divisor.proofs.Over.{polynomials-over}
 
 infixl 60 _⊝_
 abbrev pub _⊝_ : E → E → E
@@ -61,9 +62,4 @@ origin (opp a) = ⊟ origin a
 origin (pow a m) = origin a ^^ m
 
 abbrev pub forms : Kind → List E
-forms k0 = unit ∷ []
-forms k11 = (x ⊞ n 0) ∷ (y ⊞ n 1) ∷ []
-forms k21 = (y ⊞ n 1 ⊠ x ⊞ n 0) ∷ (x ⊠ x ⊞ n 3 ⊠ x ⊞ n 2) ∷ []
-forms k22 = (x ⊞ n 0) ∷ (y ⊠ y ⊞ n 2 ⊠ y ⊞ n 1) ∷ []
-forms k31 =
-    (x ⊠ x ⊞ n 2 ⊠ y ⊞ n 1 ⊠ x ⊞ n 0) ∷ (x ⊠ y ⊞ n 5 ⊠ y ⊞ n 4 ⊠ x ⊞ n 3) ∷ (y ⊠ y ⊞ n 8 ⊠ y ⊞ n 7 ⊠ x ⊞ n 6) ∷ []
+forms κ = polynomials-over E-ops x y κ n

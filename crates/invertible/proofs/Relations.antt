@@ -12,7 +12,7 @@
 --   f0 … h2, r, s, t, …    the letters and formulas of kind 31
 --   certificate κ          the certificate of the kind
 --   certified κ            it passes the tests
-use mathlib.Core.List.{List, [], _∷_, map}
+use mathlib.Core.List.{[], _∷_, map}
 use Prim.Native.Nat.{ℕ, zero, suc}
 use lib.Dec.{T}
 use Rattle.algebra.proofs.Norm.{E, num, nil, unit}
@@ -34,10 +34,10 @@ abbrev pair : Kind → E → E → Certificate
 pair κ a b =
     record {
       relations = of-F (a ∷ b ∷ []) ∷ [];
-      members = own κ ∷ record { element = b; quotients = over b [] ∷ over (⊟ a) (unit ∷ unit ∷ []) ∷ [] } ∷ [];
+      members = own κ ∷ record { element = b; quotients = over b [] ∷ over (⊟ a) (unit ∷ []) ∷ [] } ∷ [];
       row = λ w. record {
         multiples = (derivative w a ∷ derivative w b ∷ []) ∷ (derivative w (form κ 1) ∷ ⊟ derivative w (form κ 0) ∷ []) ∷ [];
-        rest = derivative w (form κ 0) ∷ derivative w (form κ 0) ∷ ⊟ form κ 0 ∷ [];
+        rest = derivative w (form κ 0) ∷ ⊟ form κ 0 ∷ [];
       };
     }
 
@@ -128,20 +128,16 @@ q1 = (y ⊞ g1) ⊠ t ⊞ f2 ⊠ r
 abbrev q2 : E
 q2 = ⊟ (u ⊠ r) ⊝ (y ⊞ g1) ⊠ s
 
--- multiples of F, of its relation, and of the two other relations
-abbrev rests : E → List E → List E
-rests m ms = m ∷ m ∷ ms
-
 abbrev adjugate-row : ℕ → Row
 adjugate-row zero =
     record {
       multiples = map (derivative 0) (r ∷ s ∷ t ∷ []) ∷ (nil ∷ ⊟ unit ∷ []) ∷ (nil ∷ nil ∷ ⊟ unit ∷ []) ∷ [];
-      rest = rests (derivative 0 (form k31 0)) (s ∷ t ∷ ⊟ form k31 0 ∷ []);
+      rest = derivative 0 (form k31 0) ∷ s ∷ t ∷ ⊟ form k31 0 ∷ [];
     }
 adjugate-row (suc w) =
     record {
       multiples = map (derivative 1) (r ∷ s ∷ t ∷ []) ∷ (unit ∷ []) ∷ (nil ∷ unit ∷ []) ∷ [];
-      rest = rests (derivative 1 (form k31 0)) (t ∷ nil ∷ ⊟ form k31 0 ∷ []);
+      rest = derivative 1 (form k31 0) ∷ t ∷ nil ∷ ⊟ form k31 0 ∷ [];
     }
 
 abbrev adjugate : Certificate
@@ -149,8 +145,8 @@ adjugate =
     record {
       relations = of-F (r ∷ s ∷ t ∷ []) ∷ syzygy ((y ⊞ g1) ∷ ⊟ u ∷ ⊟ f2 ∷ []) ∷ syzygy (h1 ∷ v ∷ ⊟ (x ⊞ g2) ∷ []) ∷ [];
       members = own k31
-          ∷ record { element = p0; quotients = over p0 [] ∷ over p1 (rests (x ⊞ g2) (nil ∷ t ∷ [])) ∷ over p2 (rests v (nil ∷ ⊟ s ∷ [])) ∷ [] }
-          ∷ record { element = q0; quotients = over q0 [] ∷ over q1 (rests (⊟ f2) (⊟ t ∷ [])) ∷ over q2 (rests u (s ∷ [])) ∷ [] }
+          ∷ record { element = p0; quotients = over p0 [] ∷ over p1 ((x ⊞ g2) ∷ nil ∷ t ∷ []) ∷ over p2 (v ∷ nil ∷ ⊟ s ∷ []) ∷ [] }
+          ∷ record { element = q0; quotients = over q0 [] ∷ over q1 (⊟ f2 ∷ ⊟ t ∷ []) ∷ over q2 (u ∷ s ∷ []) ∷ [] }
           ∷ [];
       row = adjugate-row;
     }

@@ -1,6 +1,5 @@
 -- An expression in the ideal of a basis that has remaining monomials only is zero, coefficient by coefficient, so its derivatives are zero too.
 --   taylor ps e            the part of e at the monomials 1, x and y whose pole numbers, 0, 3 and 4, are in ps
---   same a b               test: the solver finds a and b the same
 --   flat κ e               test: e has remaining monomials of the kind κ only, and its derivatives are constants
 --   vanish                 a flat expression whose value is in the ideal of a basis is zero, and so are its derivatives
 use mathlib.Core.Path.{_≡_, refl, sym, _∙_, ap, ap₂, subst}
@@ -9,7 +8,7 @@ use mathlib.Core.List.{List, [], _∷_, map}
 use Prim.Native.Nat.{ℕ}
 use lib.Dec.{T, eqb}
 use Rattle.algebra.specs.Ring.{CommRing}
-use Rattle.algebra.proofs.Norm.{E, nil, unit, plus, minus, norm, is-zero}
+use Rattle.algebra.proofs.Norm.{E, nil, unit, same}
 use Rattle.algebra.proofs.Test.{both, both-left, both-right}
 use Rattle.algebra.proofs.Solve.{_⊞_, _⊠_}
 use Rattle.ideal.proofs.Every.{Every}
@@ -20,13 +19,10 @@ use Rattle.curve.proofs.Coefficient.{constant-zero}
 use Rattle.curve.proofs.Term.{coefficient-zero}
 use Rattle.divisor.specs.Kind.{Kind, remaining, IdealOf, MadeOf, IsBasis}
 use Rattle.divisor.proofs.Monomials.{mono-one, mono-x, mono-y}
-use Rattle.divisor.proofs.Terms.{Terms, terms, places, find, distinct, coefficient-terms, terms-made}
+use Rattle.divisor.proofs.Terms.{Terms, terms, places, find, coefficient-terms, terms-made}
 use Rattle.divisor.proofs.Table.{kind-by, remaining-poles, remaining-monos}
 use Rattle.invertible.proofs.Formula.{x, y, derivative, origin}
 use Rattle.invertible.proofs.Value.{at, at-same, number-at, origin-at}
-
-abbrev pub same : E → E → Bool
-same a b = is-zero (plus (norm a) (minus (norm b)))
 
 -- what has the coefficient of e at the pole number p for its value at x = y = 0
 abbrev pub slope : ℕ → E → E

@@ -19,6 +19,7 @@ use lib.Dec.{T, leb, ltb, eqb, leb→le, ltb→lt, eqb→eq}
 use lib.ListN.{length, getD}
 use Rattle.algebra.specs.Ring.{CommRing}
 use Rattle.algebra.proofs.Norm.{E, unit}
+use Rattle.algebra.proofs.Solve.{combine}
 use Rattle.algebra.proofs.Test.{both, both-left, both-right}
 use Rattle.prime.specs.Prime.{Prime}
 use Rattle.field.specs.Residue.{el}
@@ -40,7 +41,7 @@ use Rattle.calls.specs.Call.{divisor-of}
 use Rattle.worked.proofs.Tests.{prime, prime-sound, below, below-sound, bytes, bytes-sound}
 use Rattle.worked.proofs.Vanish.{at-xy, agree, agree-sound}
 use Rattle.worked.proofs.Element.{by-x, by-y, by-x-is, by-y-is}
-use Rattle.worked.proofs.Basis.{combine, polynomials-xy, values, generated-combine, ideal-combine, closed, basis-sound, proper, one-basis, whole, whole-sound}
+use Rattle.worked.proofs.Basis.{polynomials-xy, values, generated-combine, ideal-combine, closed, basis-sound, proper, one-basis, whole, whole-sound}
 
 pub record Smooth : Type 0 where
   pub s : E

@@ -2,8 +2,7 @@
 --   polynomials-xy κ m, members-xy κ m     a record's polynomials and members as expressions, with the numbers m 0, m 1, …
 --   values es                              the elements of the expressions es
 --   values-polynomials, values-members     they are the record's
---   combine es qs                          the sum of the products q·e
---   generated-combine                      it is in the ideal that the es generate
+--   generated-combine                      the sum of the products q·e is in the ideal that the es generate
 --   ideal-combine                          and so for the ideal of a record
 --   closed p n κ m qss                     the test that the span of the members is closed under y; basis-sound: then the record is a basis
 --   whole p n κ m qs                       the test that 1 is in the ideal of a record of a kind but 0; whole-sound: then it is no basis
@@ -14,18 +13,18 @@ use mathlib.Core.Bool.{Bool, true, false}
 use mathlib.Core.List.{List, [], _∷_}
 use Prim.Native.Nat.{ℕ}
 use lib.Dec.{T}
-use Rattle.algebra.specs.Ring.{Ops, CommRing, ops}
+use Rattle.algebra.specs.Ring.{CommRing, ops}
 use Rattle.algebra.proofs.Laws as L
 use Rattle.algebra.proofs.Norm.{E, num, nil, unit, E-ops}
 use Rattle.algebra.proofs.Test.{both, both-left, both-right}
 use Rattle.algebra.proofs.Sound.{number, head, tail}
-use Rattle.algebra.proofs.Solve.{_⊞_, _⊠_}
+use Rattle.algebra.proofs.Solve.{_⊠_, combine}
 use Rattle.prime.specs.Prime.{Prime}
 use Rattle.field.specs.Residue.{Z, el}
 use Rattle.prime_field.specs.Field as field
 use Rattle.ideal.specs.Ideal.{Generated}
 use Rattle.ideal.specs.Poles.{Poles}
-use Rattle.ideal.proofs.Every.{Every}
+use Rattle.ideal.proofs.Every.{Every, all}
 use Rattle.ideal.proofs.Degree.{one-nonzero}
 use Rattle.ideal.proofs.Span.{nought, Span}
 use Rattle.curve.specs.Curve as K
@@ -35,35 +34,10 @@ use Rattle.poles.specs.Poles.{poles}
 use Rattle.divisor.specs.Kind.{Kind, k0, k11, k21, k22, k31, polynomials, remaining, IdealOf, MadeOf, IsBasis}
 use Rattle.divisor.proofs.Table.{class-by}
 use Rattle.divisor.proofs.Members.{member, members}
+use Rattle.divisor.proofs.Over.{polynomials-over, members-over}
 use Rattle.divisor.proofs.Basis.{Closed, closed-basis}
 use Rattle.worked.proofs.Vanish.{x, y, coefficients-of, at-xy, constant-number, agree, agree-sound}
 use Rattle.worked.proofs.Element.{only-x, inx-sound}
-
--- the polynomials of divisor's Kind and the members of its Members, over any operations
-module _ {A : Type 0} (O : Ops A) (x y : A) where
-  abbrev _+_ : A → A → A
-  a + b = O .add a b
-
-  abbrev _·_ : A → A → A
-  a · b = O .mul a b
-
-  infixl 60 _+_
-  infixl 70 _·_
-  abbrev polynomials-over : Kind → (ℕ → A) → List A
-  polynomials-over k0 n = O .one ∷ []
-  polynomials-over k11 n = (x + n 0) ∷ (y + n 1) ∷ []
-  polynomials-over k21 n = (y + n 1 · x + n 0) ∷ (x · x + n 3 · x + n 2) ∷ []
-  polynomials-over k22 n = (x + n 0) ∷ (y · y + n 2 · y + n 1) ∷ []
-  polynomials-over k31 n =
-      (x · x + n 2 · y + n 1 · x + n 0) ∷ (x · y + n 5 · y + n 4 · x + n 3) ∷ (y · y + n 8 · y + n 7 · x + n 6) ∷ []
-
-  abbrev members-over : Kind → (ℕ → A) → List A
-  members-over k0 n = O .one ∷ y ∷ y · y ∷ []
-  members-over k11 n = (x + n 0) ∷ (y + n 1) ∷ y · (y + n 1) ∷ []
-  members-over k21 n = (x · x + n 3 · x + n 2) ∷ (y + n 1 · x + n 0) ∷ y · (y + n 1 · x + n 0) ∷ []
-  members-over k22 n = (x + n 0) ∷ y · (x + n 0) ∷ (y · y + n 2 · y + n 1) ∷ []
-  members-over k31 n =
-      (x · x + n 2 · y + n 1 · x + n 0) ∷ (x · y + n 5 · y + n 4 · x + n 3) ∷ (y · y + n 8 · y + n 7 · x + n 6) ∷ []
 
 abbrev pub polynomials-xy : Kind → (ℕ → ℕ) → List E
 polynomials-xy κ m = polynomials-over E-ops x y κ (λ i. num (m i))
@@ -71,18 +45,10 @@ polynomials-xy κ m = polynomials-over E-ops x y κ (λ i. num (m i))
 abbrev pub members-xy : Kind → (ℕ → ℕ) → List E
 members-xy κ m = members-over E-ops x y κ (λ i. num (m i))
 
-abbrev pub combine : List E → List E → E
-combine [] qs = nil
-combine (e ∷ es) qs = head nil qs ⊠ e ⊞ combine es (tail qs)
-
-abbrev all-x : List E → Bool
-all-x [] = true
-all-x (q ∷ qs) = both (only-x q) (all-x qs)
-
 -- y times each of bs is made of ms
 abbrev spans : ℕ → (ℕ → ℕ) → List E → List E → List (List E) → Bool
 spans p n ms [] qss = true
-spans p n ms (b ∷ bs) qss = both (both (all-x (head [] qss)) (agree p n (y ⊠ b) (combine ms (head [] qss)))) (spans p n ms bs (tail qss))
+spans p n ms (b ∷ bs) qss = both (both (all only-x (head [] qss)) (agree p n (y ⊠ b) (combine ms (head [] qss)))) (spans p n ms bs (tail qss))
 
 abbrev pub closed : ℕ → (ℕ → ℕ) → Kind → (ℕ → ℕ) → List (List E) → Bool
 closed p n κ m qss = spans p n (members-xy κ m) (members-xy κ m) qss
@@ -157,24 +123,24 @@ module _ (p : ℕ) (n : ℕ → ℕ) where
     abbrev P : Poles (Coordinate C)
     P = poles (field.F p h) C (field.F p h .nontrivial)
 
-    span-combine : (es qs : List E) → T (all-x qs) → Span P (values es) (at-xy p n (combine es qs))
+    span-combine : (es qs : List E) → T (all only-x qs) → Span P (values es) (at-xy p n (combine es qs))
     span-combine [] qs t = refl
     span-combine (e ∷ es) [] t = (R .zero, at-xy p n (combine es []), nought refl, span-combine es [] tt, refl)
     span-combine (e ∷ es) (q ∷ qs) t =
-        let i = inx-sound p n h q (both-left (only-x q) (all-x qs) t) in
-        (at-xy p n q, at-xy p n (combine es qs), i, span-combine es qs (both-right (only-x q) (all-x qs) t), refl)
+        let i = inx-sound p n h q (both-left (only-x q) (all only-x qs) t) in
+        (at-xy p n q, at-xy p n (combine es qs), i, span-combine es qs (both-right (only-x q) (all only-x qs) t), refl)
 
     spans-sound : (ms bs : List E) (qss : List (List E)) → T (spans p n ms bs qss)
         → Every (λ b. Span P (values ms) (R .mul (K.y C) b)) (values bs)
     spans-sound ms [] qss t = tt
     spans-sound ms (b ∷ bs) qss t = (
-      subst (Span P (values ms)) (sym (agree-sound p n (y ⊠ b) (combine ms (head [] qss)) (both-right (all-x (head [] qss)) _ first)))
-          (span-combine ms (head [] qss) (both-left (all-x (head [] qss)) _ first)),
-      spans-sound ms bs (tail qss) (both-right (both (all-x (head [] qss)) (agree p n (y ⊠ b) (combine ms (head [] qss)))) _ t),
+      subst (Span P (values ms)) (sym (agree-sound p n (y ⊠ b) (combine ms (head [] qss)) (both-right (all only-x (head [] qss)) _ first)))
+          (span-combine ms (head [] qss) (both-left (all only-x (head [] qss)) _ first)),
+      spans-sound ms bs (tail qss) (both-right (both (all only-x (head [] qss)) (agree p n (y ⊠ b) (combine ms (head [] qss)))) _ t),
     )
       where
-        first : T (both (all-x (head [] qss)) (agree p n (y ⊠ b) (combine ms (head [] qss))))
-        first = both-left (both (all-x (head [] qss)) (agree p n (y ⊠ b) (combine ms (head [] qss)))) _ t
+        first : T (both (all only-x (head [] qss)) (agree p n (y ⊠ b) (combine ms (head [] qss))))
+        first = both-left (both (all only-x (head [] qss)) (agree p n (y ⊠ b) (combine ms (head [] qss)))) _ t
 
     module _ (κ : Kind) (m : ℕ → ℕ) where
       abbrev ν : ℕ → Z p .Car

@@ -24,17 +24,17 @@ use Rattle.field.specs.Residue.{Z, el}
 use Rattle.field.proofs.Element.{el-zero, el-one, el-add, el-mod-same}
 use Rattle.prime_field.specs.Field as field
 use Rattle.polynomial.specs.Poly.{Poly, coef}
-use Rattle.polynomial.proofs.Kernel.{eval-quadratic}
 use Rattle.ideal.specs.Poles.{Poles}
 use Rattle.ideal.proofs.Degree.{one-pole, neg-one-constant}
 use Rattle.ideal.proofs.Span.{InX, nought, inx-sum, inx-scale, inx-x, inx-constant, inx-mul, inx-one}
 use Rattle.curve.specs.Curve as K
-use Rattle.curve.specs.Curve.{Curve, Coordinate, constant, in-x, ascending, at}
-use Rattle.curve.proofs.Coefficient.{at-zero, in-x-zero, in-x-add, in-x-mul}
+use Rattle.curve.specs.Curve.{Curve, Coordinate, in-x, ascending, at}
+use Rattle.curve.proofs.Coefficient.{at-zero}
+use Rattle.curve.proofs.Equation.{in-x-ascending, in-x-none}
 use Rattle.poles.specs.Poles.{poles}
-use Rattle.nonsingular.specs.Normal.{of-parts, over-x}
+use Rattle.nonsingular.specs.Normal.{of-parts}
 use Rattle.nonsingular.specs.Derivative.{twice, thrice, four-times, derivative-x, derivative-y}
-use Rattle.nonsingular.proofs.Quotient.{normal-quadratic, part-0, part-1, part-2}
+use Rattle.nonsingular.proofs.Quotient.{part-0, part-1, part-2, at-of-parts}
 use Rattle.nonsingular.proofs.Derivative.{coef-ascending}
 use Rattle.divisor.proofs.Monomials.{mono-x}
 use Rattle.divisor.proofs.Members.{poles-mono}
@@ -138,16 +138,13 @@ module _ (p : ℕ) (n : ℕ → ℕ) where
   poly r = ascending (Z p) (residues r)
 
   row-is : (r : List ℕ) → in-x C (poly r) ≡ at-xy p n (row r)
-  unfolding ascending K.x constant
-  row-is [] = in-x-zero C
-  row-is (a ∷ r) =
-      in-x-add C _ _ ∙ ap₂ (R .add) (constant-number p C a) (in-x-mul C _ _ ∙ ap (R .mul (K.x C)) (row-is r))
+  row-is [] = in-x-none C
+  row-is (a ∷ r) = in-x-ascending C _ _ ∙ ap₂ (λ u v. R .add u (R .mul (K.x C) v)) (constant-number p C a) (row-is r)
 
   pub rows-parts : (r0 r1 r2 : List ℕ) → at-xy p n (rows r0 r1 r2) ≡ of-parts C (poly r0) (poly r1) (poly r2)
   rows-parts r0 r1 r2 =
       sym (λ i. R .add (R .add (row-is r0 i) (R .mul (row-is r1 i) (K.y C))) (R .mul (row-is r2 i) (R .mul (K.y C) (K.y C))))
-      ∙ sym (eval-quadratic (over-x C) (K.y C) (poly r0) (poly r1) (poly r2))
-      ∙ normal-quadratic C (poly r0) (poly r1) (poly r2)
+      ∙ at-of-parts C (poly r0) (poly r1) (poly r2)
 
   some-sound : 0 < p → (r : List ℕ) → T (some p r) → ((i : ℕ) → getD (residues r) i (Z p .zero) ≡ Z p .zero) → ⊥
   some-sound pos [] t f = t

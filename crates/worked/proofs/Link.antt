@@ -18,7 +18,7 @@ use Rattle.algebra.proofs.Laws as L
 use Rattle.algebra.proofs.Norm.{E}
 use Rattle.algebra.proofs.Test.{both, both-left, both-right}
 use Rattle.algebra.proofs.Sound.{head, tail}
-use Rattle.algebra.proofs.Solve.{_⊠_}
+use Rattle.algebra.proofs.Solve.{_⊠_, combine}
 use Rattle.ideal.specs.Ideal.{IsIdeal, Generated, Product, SameIdeal, Equivalent}
 use Rattle.ideal.proofs.Same.{same-sym, same-trans}
 use Rattle.ideal.proofs.Every.{Every}
@@ -34,7 +34,7 @@ use Rattle.calls.specs.Class.{Ring, Record, Ideal, poles-on, IsSum}
 use Rattle.calls.proofs.Class.{class-reduced}
 use Rattle.worked.proofs.Vanish.{coefficients-of, at-xy, agree, agree-sound}
 use Rattle.worked.proofs.Element.{nonzero, nonzero-sound}
-use Rattle.worked.proofs.Basis.{combine, polynomials-xy, values, values-polynomials, generated-combine}
+use Rattle.worked.proofs.Basis.{polynomials-xy, values, values-polynomials, generated-combine}
 use Rattle.worked.proofs.Accepted.{numbers-of}
 
 module _ (R : CommRing) where
