@@ -202,7 +202,7 @@ module _ {R : CommRing} (P : Poles R) where
   -- With G = I + J, G·G′ = (e): for i in I, j in J and g′ in G′ are j·g′ = e·a and i·g′ = e·b, so i·a = j·b is in both, and g·g′·(i·j) = e·(i·a)·g.
   pub invertible-parts : {I J : Car → Type 0} → IsIdeal R I → IsIdeal R J → InvertibleIdeal R (IdealSum R I J)
       → SameIdeal R (Product R (Intersection R I J) (IdealSum R I J)) (Product R I J)
-  invertible-parts {I} {J} i j v h = (product-in R (product-ideal R i) split, product-in R parts (λ x y mx my. invertible-member v parts (λ g g′ mg mg′. at mx my mg mg′ (inverse-multiple v (sum-right R i my) mg′) (inverse-multiple v (sum-left R j mx) mg′))))
+  invertible-parts {I} {J} i j v h = (product-in R (product-ideal R i) split, product-in R parts joined)
     where
       split : (m s : Car) → Intersection R I J m → IdealSum R I J s → Product R I J (m ⊗ s)
       split m s (mi, mj) (a, b, ma, mb, p) =
@@ -221,4 +221,10 @@ module _ {R : CommRing} (P : Poles R) where
       )
         where
           same : x ⊗ a ≡ y ⊗ b
-          same = cancel P (v .nonzero) (laws.mul-left-comm R (v .e) x a ∙ ap (λ t. x ⊗ t) (sym p) ∙ laws.mul-left-comm R x y g′ ∙ ap (λ t. y ⊗ t) p′ ∙ laws.mul-left-comm R y (v .e) b)
+          same =
+              cancel P (v .nonzero)
+              (laws.mul-left-comm R (v .e) x a ∙ ap (λ t. x ⊗ t) (sym p) ∙ laws.mul-left-comm R x y g′ ∙ ap (λ t. y ⊗ t) p′ ∙ laws.mul-left-comm R y (v .e) b)
+
+      joined : (x y : Car) → I x → J y → Product R (Intersection R I J) (IdealSum R I J) (x ⊗ y)
+      joined x y mx my =
+          invertible-member v parts (λ g g′ mg mg′. at mx my mg mg′ (inverse-multiple v (sum-right R i my) mg′) (inverse-multiple v (sum-left R j mx) mg′))

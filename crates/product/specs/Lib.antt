@@ -1,2 +1,2 @@
--- Products of vectors and of spans: what the functions on them ensure.
+-- Products of spans: what the functions on them ensure.
 pub mod Contract
