@@ -23,7 +23,7 @@ use Rattle.ideal.proofs.Degree.{degree, mono-has, one-pole, pole-at, po
 use Rattle.ideal.proofs.Every.{Every}
 use Rattle.ideal.proofs.Leads.{ideal-space, Lead, Based, based-same, lowering}
 use Rattle.ideal.proofs.Kernel.{multiple-pole}
-use Rattle.ideal.proofs.Product.{product-ideal, product-of, product-same}
+use Rattle.ideal.proofs.Product.{product-ideal, product-of, product-same, whole-ideal}
 use Rattle.ideal.proofs.Generated.{generated-ideal, generated-first, generated-rest, generated-in, products, generated-product}
 use Rattle.ideal.proofs.Adjoin.{extend-based}
 use Rattle.ideal.proofs.Reduced.{SmallFootprint}
@@ -141,7 +141,7 @@ module _ {R : CommRing} (P : Poles R) where
 
   pub whole-based : BasedIdeal (λ _. Unit)
   whole-based = record {
-    ideal = record { nil = tt; sum = λ x y. tt; times = λ r x. tt };
+    ideal = whole-ideal R;
     based = λ n. at n (gap-dec n);
     pole = 0;
     lead = (one, tt, one-pole P);

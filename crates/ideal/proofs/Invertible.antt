@@ -1,8 +1,8 @@
 -- Invertible ideals: I·I′ = (e), e not zero. They can be cancelled.
---   multiple-ideal         the multiples of e are an ideal
---   multiple-product       (a)·(b) = (a·b)
 --   Scaled e Y             e·Y: the elements e·y, y in Y
 --   scaled-ideal           … are an ideal
+--   multiple-ideal         the multiples of e are an ideal
+--   multiple-product       (a)·(b) = (a·b)
 --   invertible-member      h is in Y if (a·b)·h is in e·Y for all a in I and b in I′
 --   colon-invertible       I is invertible if f is in I·(f : I), f not zero
 --   invertible-colon       I·(u : I) = (u) for every u in I
@@ -19,11 +19,11 @@ use Rattle.ideal.specs.Ideal.{IsIdeal, Product, Multiple, Colon, SameIde
 use Rattle.ideal.specs.Poles.{Poles}
 use Rattle.ideal.specs.Parts.{IdealSum, Intersection}
 use Rattle.ideal.specs.Invertible.{InvertibleIdeal}
-use Rattle.ideal.proofs.Same.{same-refl, same-sym, same-trans}
+use Rattle.ideal.proofs.Same.{same-refl, same-sym, same-trans, ideal-same}
 use Rattle.ideal.proofs.Degree.{cancel, mul-nonzero}
 use Rattle.ideal.proofs.Colon.{colon-ideal}
 use Rattle.ideal.proofs.Class.{equivalent-ideal, equivalent-same}
-use Rattle.ideal.proofs.Product.{product-of, product-in, product-ideal, product-same, product-comm, product-assoc, taken-ideal}
+use Rattle.ideal.proofs.Product.{product-of, product-in, product-ideal, product-same, product-comm, product-assoc, taken-ideal, whole-ideal}
 use Rattle.ideal.proofs.Parts.{intersection-ideal, sum-left, sum-right}
 use Rattle.ideal.proofs.Rules.{ring}
 
@@ -49,17 +49,7 @@ module _ (R : CommRing) where
       times r a (y, m, q) = (r ⊗ y, i .times r m, ap (λ t. r ⊗ t) q ∙ laws.mul-left-comm R r e y)
 
   pub multiple-ideal : (e : Car) → IsIdeal R (Multiple R e)
-  multiple-ideal e = record {
-    nil = (zero, simp ring);
-    sum = λ {a} {b} x y. add a b x y;
-    times = λ r {a} x. times r a x;
-  }
-    where
-      add : (a b : Car) → Multiple R e a → Multiple R e b → Multiple R e (a ⊕ b)
-      add a b (q, p) (q′, p′) = (q ⊕ q′, ap₂ _⊕_ p p′ ∙ sym (R .mul-add e q q′))
-
-      times : (r a : Car) → Multiple R e a → Multiple R e (r ⊗ a)
-      times r a (q, p) = (r ⊗ q, ap (λ t. r ⊗ t) p ∙ laws.mul-left-comm R r e q)
+  multiple-ideal e = ideal-same R (λ h. (λ (q, _, p). (q, p), λ (q, p). (q, tt, p))) (scaled-ideal e (whole-ideal R))
 
   swap-last : (a b c : Car) → a ⊗ b ⊗ c ≡ a ⊗ c ⊗ b
   swap-last a b c = simp ring

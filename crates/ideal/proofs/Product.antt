@@ -7,6 +7,7 @@
 --   product-map, product-same      I·J grows with I and J
 --   product-comm, product-assoc, product-unit
 --   taken-ideal            the elements that k takes into an ideal are an ideal
+--   whole-ideal            the whole ring is an ideal
 --   productof-ideal        the product of a list of ideals is an ideal
 --   productof-append       the product of two lists, one after the other
 --   productof-swap         two neighbours may change places
@@ -78,12 +79,15 @@ module _ (R : CommRing) where
   product-assoc {I} {J} {K} i j k h =
       (product-right i, λ p. product-turn (product-map (λ a x. x) (λ b. product-turn) (product-right k (product-turn (product-map (λ a x. x) (λ b. product-turn) p)))))
 
+  pub whole-ideal : IsIdeal R (λ _. Unit)
+  whole-ideal = record { nil = tt; sum = λ x y. tt; times = λ r x. tt }
+
   pub product-unit : {I : Car → Type 0} → IsIdeal R I → SameIdeal R (Product R (λ _. Unit) I) I
   product-unit {I} i h = (product-in i (λ a b _ ib. i .times a ib), λ ih. subst (Product R (λ _. Unit) I) (laws.one-mul R h) (product-of tt ih))
 
   module _ {X : Type 0} (f : X → Car → Type 0) where
     pub productof-ideal : (xs : List X) → Every (λ x. IsIdeal R (f x)) xs → IsIdeal R (ProductOf R f xs)
-    productof-ideal [] _ = record { nil = tt; sum = λ x y. tt; times = λ r x. tt }
+    productof-ideal [] _ = whole-ideal
     productof-ideal (x ∷ xs) (i, is) = product-ideal i
 
     pub productof-append : (xs ys : List X) → Every (λ x. IsIdeal R (f x)) xs → Every (λ x. IsIdeal R (f x)) ys

@@ -37,7 +37,7 @@ n i = var (12 + i)
 abbrev pub F : E
 F = F-at E-ops x y a0 (c 0) (c 1) (c 2) (c 3) (c 4) (c 5) (c 6) (c 7) (c 8)
 
--- What follows from the derivatives' rules needs no proof: the solver tests what they give.
+-- That these rules are right needs no proof: the solver tests what they give.
 abbrev pub derivative : ℕ → E → E
 derivative v (var i) = pick (eqb v i) unit nil
 derivative v (num m) = nil

@@ -1,10 +1,9 @@
 -- On a nonsingular curve over a field the ideal of a record that is a basis is invertible.
---   first-nonzero          the first polynomial of a record is not zero
 --   record-invertible      the ideal of a basis is invertible
 --   record-colon           I·(u : I) = (u) for every u in the ideal I of a basis; for its least element in particular
 use mathlib.Core.Path.{_≡_, sym, subst₂}
 use mathlib.Core.List.{[], _∷_}
-use Prim.Native.Nat.{ℕ}
+use Prim.Native.Nat.{ℕ, _≤_}
 use native.Mathlib.Omega.{arith}
 use Rattle.algebra.specs.Ring.{CommRing, Field}
 use Rattle.ideal.specs.Ideal.{Generated, Product, Multiple, Colon, SameIdeal}
@@ -19,7 +18,7 @@ use Rattle.nonsingular.specs.Nonsingular.{Nonsingular}
 use Rattle.nonsingular.proofs.Nonsingular.{nonsingular}
 use Rattle.divisor.specs.Kind.{Kind, k0, k11, k21, k22, k31, polynomials, IdealOf, IsBasis}
 use Rattle.divisor.proofs.Table.{kind-by}
-use Rattle.divisor.proofs.Members.{member-pole}
+use Rattle.divisor.proofs.Members.{member, member-pole}
 use Rattle.invertible.proofs.Formula.{F, derivative}
 use Rattle.invertible.proofs.Value.{at, slope-x, slope-y}
 use Rattle.invertible.proofs.Certificate.{form}
@@ -32,11 +31,14 @@ module _ (K : Field) (C : Curve (K .ring)) (nonzero : ¬ (C .a0 ≡ K .ring .zer
   abbrev P : Poles (Coordinate C)
   P = poles K C nonzero
 
+  member-nonzero : (κ : Kind) (j : ℕ) → j ≤ 2 → ¬ (member C κ n j ≡ 𝟎)
+  member-nonzero κ j l = pole-nonzero P (member-pole K C nonzero n κ j l)
+
+  -- the first polynomial is the member in class 1 for kind 21, in class 0 for the others
   first-nonzero : (κ : Kind) → ¬ (at C n (form κ 0) ≡ 𝟎)
   first-nonzero =
-      kind-by (λ κ. ¬ (at C n (form κ 0) ≡ 𝟎)) (pole-nonzero P (member-pole K C nonzero n k0 0 (omega arith))) (pole-nonzero P (member-pole K C nonzero n k11 0 (omega arith)))
-      (pole-nonzero P (member-pole K C nonzero n k21 1 (omega arith))) (pole-nonzero P (member-pole K C nonzero n k22 0 (omega arith)))
-      (pole-nonzero P (member-pole K C nonzero n k31 0 (omega arith)))
+      kind-by (λ κ. ¬ (at C n (form κ 0) ≡ 𝟎)) (member-nonzero k0 0 (omega arith)) (member-nonzero k11 0 (omega arith)) (member-nonzero k21 1 (omega arith))
+      (member-nonzero k22 0 (omega arith)) (member-nonzero k31 0 (omega arith))
 
   module _ (smooth : Nonsingular C) (κ : Kind) (basis : IsBasis C κ n) where
     slopes : Generated (Coordinate C) (at C n (derivative 0 F) ∷ at C n (derivative 1 F) ∷ []) 𝟏
