@@ -1,4 +1,4 @@
--- The laws of records: refusals, values and bytes, uniqueness, lists.
+-- The laws of records: refusals, invertible ideals, values and bytes, uniqueness, lists.
 pub mod Cause
 pub mod Accepted
 pub mod Invertible

@@ -17,7 +17,7 @@ use native.Mathlib.Omega.{arith}
 use lib.Dec.{T}
 use Rattle.algebra.specs.Ring.{CommRing, ops}
 use Rattle.algebra.proofs.Laws as L
-use Rattle.algebra.proofs.Norm.{E, var, num, nil, unit, H, z, con, cons, plus, minus, times, norm, is-zero, E-ops}
+use Rattle.algebra.proofs.Norm.{E, var, num, nil, unit, H, z, con, cons, plus, minus, times, norm, same, E-ops}
 use Rattle.algebra.proofs.Sound.{number, value, same-value}
 use Rattle.algebra.proofs.Solve.{_⊞_, _⊠_, ⊟_}
 use Rattle.field.specs.Residue.{Z, el}
@@ -101,7 +101,7 @@ abbrev multiples : ℕ → (ℕ → ℕ) → Division → E
 multiples p n d = express (d .quotient) 0 ⊠ F n ⊞ express (over p (cons (d .r0) (cons (d .r1) (cons (d .r2) z)))) 0 ⊠ num p
 
 abbrev pub vanishes : ℕ → (ℕ → ℕ) → E → Bool
-vanishes p n e = is-zero (plus (norm e) (minus (norm (multiples p n (divide n e)))))
+vanishes p n e = same e (multiples p n (divide n e))
 
 abbrev pub agree : ℕ → (ℕ → ℕ) → E → E → Bool
 agree p n e e′ = vanishes p n (e ⊞ ⊟ e′)
