@@ -2,10 +2,10 @@
 --
 -- Kinds 11, 21 and 22: F = a·f + b·g but for remaining monomials. On the curve b·g = −a·f, so b is in (f : I), and by Leibniz's rule
 --   f·F′ = (a′·f + b′·g)·f + (g′·f − f′·g)·b
--- Kind 31: F = r·f + s·g + t·h but for remaining monomials, and so are two more combinations of f, g, h zero on the curve. The three rows of cofactors are a
--- matrix whose determinant is F; p and q are two columns of its adjugate matrix, f, g, h the third. On the curve f·q = q0·(f, g, h) and f·p = p0·(f, g, h), so p0 and
--- q0 are in (f : I), and
---   f·Fx = (rₓ·f + tₓ·h)·f − g·p0 − h·q0        f·Fy = (r_y·f + t_y·h)·f + f·p0 + g·q0
+-- Kind 31: F = r·f + s·g + t·h but for remaining monomials, and two more combinations of f, g and h have remaining monomials only. The cofactors are the rows of
+-- a matrix; p and q are two columns of its adjugate matrix. (For a basis the third column is f, g, h and the determinant is F: a picture, and no step of the proof.)
+-- On the curve f·p = p0·(f, g, h) and f·q = q0·(f, g, h), so p0 and q0 are in (f : I), and
+--   f·Fx = (r′·f + t′·h)·f − g·p0 − h·q0 for the derivatives by x        f·Fy = (r′·f + t′·h)·f + f·p0 + g·q0 for those by y
 --
 --   pair κ a b             the certificate of kinds 11, 21 and 22
 --   a-line, b-11, b-22, a-21, b-21     their cofactors of F
@@ -128,6 +128,7 @@ q1 = (y ⊞ g1) ⊠ t ⊞ f2 ⊠ r
 abbrev q2 : E
 q2 = ⊟ (u ⊠ r) ⊝ (y ⊞ g1) ⊠ s
 
+-- the rows of the derivatives by x and by y
 abbrev adjugate-row : ℕ → Row
 adjugate-row zero =
     record {
