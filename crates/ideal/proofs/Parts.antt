@@ -80,9 +80,8 @@ module _ (R : CommRing) where
       at h x y e (q, p) (q′, p′) = (q ⊕ q′, ap (λ t. g ⊗ t) e ∙ R .mul-add g x y ∙ ap₂ _⊕_ p p′ ∙ sym (R .mul-add f q q′))
 
 module _ {R : CommRing} (P : Poles R) where
-  open CommRing R using (Car, add as _⊕_)
+  open CommRing R using (Car)
 
-  infixl 60 _⊕_
   pub sum-based : {I J : Car → Type 0} → BasedIdeal P I → BasedIdeal P J → BasedIdeal P (IdealSum R I J)
   sum-based {I} {J} b c = go (generators P b) (generators P c)
     where

@@ -23,7 +23,7 @@ use Rattle.invertible.proofs.Formula as formula
 use Rattle.invertible.proofs.Formula.{a0, c, F, derivative, origin, forms}
 
 module _ {k : CommRing} (C : Curve k) (n : ℕ → k .Car) where
-  open CommRing (Coordinate C) using (Car as El, zero as 𝟎, one as 𝟏, add as _⊕_, mul as _⊗_, neg as ⊖_)
+  open CommRing (Coordinate C) using (Car as El, zero as 𝟎, add as _⊕_, mul as _⊗_, neg as ⊖_)
 
   infixl 60 _⊕_
   infixl 70 _⊗_
