@@ -2,8 +2,8 @@
 --   writable               a divisor that was found has the number of a kind
 --   writes-found           a divisor that was found is written, or the call is refused
 --   tally-given, tally-refused     a number of records that was found, or the cause
-use mathlib.Core.Path.{_≡_, refl, sym, subst}
-use mathlib.Core.Logic.{inl, inr}
+use mathlib.Core.Path.{_≡_, sym, subst}
+use mathlib.Core.Logic.{inr}
 use mathlib.Core.List.{List, _++_}
 use Prim.Native.Nat.{ℕ, _<_}
 use native.Mathlib.Omega.{arith}
@@ -16,37 +16,40 @@ use Rattle.record.specs.Listed.{Listed}
 use Rattle.reader.specs.declared.DivisorAnswer.{DivisorAnswer}
 use Rattle.reader.specs.declared.DivisorAnswer.the-variants as answer
 use Rattle.record.proofs.Cause.{first-append, passes-append}
-use Rattle.calls.specs.Answer.{Writes, refused, written}
-use Rattle.calls.specs.Call.{room, buffer, tally}
+use Rattle.calls.specs.Answer.{Writes}
+use Rattle.calls.specs.Call.{room, tally}
+use Rattle.calls.proofs.Answers.{writes-refused, writes-short, writes-enough}
 use Rattle.classes.specs.Found.{Found}
 use Rattle.lists.specs.Totals.{TallyFound}
 use Rattle.lists.specs.declared.TallyAnswer.{TallyAnswer}
 use Rattle.lists.specs.declared.TallyAnswer.the-variants as count
 use Rattle.reply.specs.Written.{Writable, Wrote}
-use Rattle.answer.proofs.Curve.{writes-after}
 
 pub writable : (c : List ℕ) (ss : List Stage) (Good : List ℕ → Type 0) (r : DivisorAnswer) → Found c ss Good r → Writable r
 writable c ss Good (answer.Divisor x) f = (f .1 .2 .kind, f .1 .2 .based .shaped .kind)
 writable c ss Good (answer.Refused n) f = tt
 
 wrote-writes : (c : List ℕ) (ss : List Stage) (Good : List ℕ → Type 0) {out out′ : List ℕ} {n : ℤ} (r : DivisorAnswer)
-    → Found c ss Good r → Wrote r out n out′ → Writes (ss ++ buffer out) Good out n out′
-wrote-writes c ss Good {out} {out′} {n} (answer.Divisor x) f h = go (decLt (length out) room)
+    → Passes (curve-stages c) → Found c ss Good r → Wrote r out n out′ → Writes room (curve-stages c ++ ss) Good out n out′
+wrote-writes c ss Good {out} {out′} {n} (answer.Divisor x) p f h = go (decLt (length out) room)
   where
-    go : Dec (length out < room) → Writes (ss ++ buffer out) Good out n out′
+    all : Passes (curve-stages c ++ ss)
+    all = passes-append (curve-stages c) ss .1 (p, f .0)
+
+    go : Dec (length out < room) → Writes room (curve-stages c ++ ss) Good out n out′
     go (yes l) =
         let z = h .0 l in
-        refused 10 (first-append ss (buffer out) 10 .1 (inr (f .0, inl (λ m. omega arith, refl)))) (z .0) (z .1)
+        writes-short (curve-stages c ++ ss) all l (z .0) (z .1)
     go (no l) =
         let z = h .1 (omega arith) c (f .1 .0) (f .1 .2) in
-        written (f .1 .0) (passes-append ss (buffer out) .1 (f .0, (omega arith, tt))) (f .1 .1) (z .0) (z .1)
-wrote-writes c ss Good {out} (answer.Refused k) f h = refused k (first-append ss (buffer out) k .1 (inl f)) (h .0) (h .1)
+        writes-enough (curve-stages c ++ ss) all (f .1 .0) (omega arith) (f .1 .1) (z .0) (z .1)
+wrote-writes c ss Good (answer.Refused k) p f h =
+    writes-refused (curve-stages c ++ ss) k (first-append (curve-stages c) ss k .1 (inr (p, f))) (h .0) (h .1)
 
 pub writes-found : (c : List ℕ) (ss : List Stage) (Good : List ℕ → Type 0) {out out′ : List ℕ} {m : ℤ} (n : ℤ) (r : DivisorAnswer)
-    → Passes (curve-stages c) → Found c ss Good r → Wrote r out n out′ → m ≡ n → Writes (curve-stages c ++ ss ++ buffer out) Good out m out′
+    → Passes (curve-stages c) → Found c ss Good r → Wrote r out n out′ → m ≡ n → Writes room (curve-stages c ++ ss) Good out m out′
 writes-found c ss Good {out} {out′} n r p f h e =
-    subst (λ (k : ℤ). Writes (curve-stages c ++ ss ++ buffer out) Good out k out′) (sym e)
-    (writes-after (curve-stages c) (ss ++ buffer out) p (wrote-writes c ss Good r f h))
+    subst (λ (k : ℤ). Writes room (curve-stages c ++ ss) Good out k out′) (sym e) (wrote-writes c ss Good r p f h)
 
 -- what count_on found
 module _ (c : List ℕ) (ss : List Stage) (s : List ℕ) (kind : ℕ) (r : TallyAnswer) (h : TallyFound c ss s kind r) where

@@ -9,13 +9,13 @@ use lib.IntN.{ℤ, pos}
 use Rattle.record.specs.Cause.{Passes}
 use Rattle.record.specs.Curve.{modulus, equation, curve-stages, AcceptedCurve}
 use Rattle.record.specs.Listed.{Listed}
-use Rattle.record.proofs.Cause.{AllSound, passes-append}
+use Rattle.record.proofs.Cause.{passes-append}
 use Rattle.record.proofs.Lists.{curve-sound, listed-once}
 use Rattle.calls.specs.Class.{IsListSum}
-use Rattle.calls.specs.Call.{CheckCurve, CheckDivisor, Sum, Double, Negative, Multiple, ListSum, Compare, Count, divisor-of, list-of, buffer, tally}
+use Rattle.calls.specs.Call.{CheckCurve, CheckDivisor, Sum, Double, Negative, Multiple, ListSum, Compare, Count, divisor-of, list-of, room, tally}
 use Rattle.calls.proofs.Class.{Accepted, sum-one, negative-one}
 use Rattle.calls.proofs.Multiples.{list-one, multiple-one}
-use Rattle.calls.proofs.Answers.{sound-append, buffer-sound, one-sound, two-sound, list-of-sound, writes-one, returns-one}
+use Rattle.calls.proofs.Answers.{one-sound, two-sound, list-of-sound, writes-one, returns-one}
 
 pub check-curve-determined : (c : List ℕ) (r s : ℤ) → CheckCurve c r → CheckCurve c s → r ≡ s
 check-curve-determined c r s h k = returns-one (curve-stages c) (curve-sound c) (λ r s p e e′. e ∙ sym e′) h k
@@ -44,52 +44,43 @@ count-determined c s kind r t h k = returns-one (curve-stages c ++ list-of c s) 
         e ∙ ap (λ (ws : List (List ℕ)). pos (tally kind ws)) (listed-once (modulus c) (equation c) s rs rs′ l l′) ∙ sym e′
 
 module _ (c out : List ℕ) where
-  -- What a call that writes has checked: the curve and one divisor, the curve and two divisors, the curve and a list.
-  one-passed : (a : List ℕ) → Passes (curve-stages c ++ divisor-of c a ++ buffer out) → AcceptedCurve c × Accepted c a
-  one-passed a p =
-      let q = passes-append (curve-stages c) (divisor-of c a ++ buffer out) .0 p in
-      (q .0, passes-append (divisor-of c a) (buffer out) .0 (q .1) .0)
+  -- What a call that writes has checked before the buffer: the curve and one divisor, the curve and two divisors, the curve and a list.
+  one-passed : (a : List ℕ) → Passes (curve-stages c ++ divisor-of c a) → AcceptedCurve c × Accepted c a
+  one-passed a p = passes-append (curve-stages c) (divisor-of c a) .0 p
 
-  two-passed : (a b : List ℕ) → Passes (curve-stages c ++ divisor-of c a ++ divisor-of c b ++ buffer out)
-      → AcceptedCurve c × Accepted c a × Accepted c b
+  two-passed : (a b : List ℕ) → Passes (curve-stages c ++ divisor-of c a ++ divisor-of c b) → AcceptedCurve c × Accepted c a × Accepted c b
   two-passed a b p =
-      let q = passes-append (curve-stages c) (divisor-of c a ++ divisor-of c b ++ buffer out) .0 p in
-      let t = passes-append (divisor-of c a) (divisor-of c b ++ buffer out) .0 (q .1) in
-      (q .0, t .0, passes-append (divisor-of c b) (buffer out) .0 (t .1) .0)
+      let q = passes-append (curve-stages c) (divisor-of c a ++ divisor-of c b) .0 p in
+      let t = passes-append (divisor-of c a) (divisor-of c b) .0 (q .1) in
+      (q .0, t .0, t .1)
 
-  list-passed : (s : List ℕ) → Passes (curve-stages c ++ list-of c s ++ buffer out) → AcceptedCurve c
-  list-passed s p = passes-append (curve-stages c) (list-of c s ++ buffer out) .0 p .0
-
-  -- the stages of a call on one divisor, with the buffer
-  one-buffer-sound : (a : List ℕ) → AllSound (curve-stages c ++ divisor-of c a ++ buffer out)
-  one-buffer-sound a = sound-append (curve-stages c ++ divisor-of c a) (buffer out) (one-sound c a) (buffer-sound out)
+  list-passed : (s : List ℕ) → Passes (curve-stages c ++ list-of c s) → AcceptedCurve c
+  list-passed s p = passes-append (curve-stages c) (list-of c s) .0 p .0
 
   pub sum-determined : (a b : List ℕ) (r s : ℤ) (out′ out″ : List ℕ) → Sum c a b out r out′ → Sum c a b out s out″ → (r ≡ s) × (out′ ≡ out″)
   sum-determined a b r s out′ out″ =
-      writes-one (curve-stages c ++ divisor-of c a ++ divisor-of c b ++ buffer out)
-      (sound-append (curve-stages c ++ divisor-of c a ++ divisor-of c b) (buffer out) (two-sound c a b) (buffer-sound out))
+      writes-one (curve-stages c ++ divisor-of c a ++ divisor-of c b) (two-sound c a b) room out
       (λ w w′ p. let q = two-passed a b p in sum-one c (q .0) a b w (q .1) (q .2) w′)
 
   pub double-determined : (a : List ℕ) (r s : ℤ) (out′ out″ : List ℕ) → Double c a out r out′ → Double c a out s out″ → (r ≡ s) × (out′ ≡ out″)
   double-determined a r s out′ out″ =
-      writes-one (curve-stages c ++ divisor-of c a ++ buffer out) (one-buffer-sound a)
+      writes-one (curve-stages c ++ divisor-of c a) (one-sound c a) room out
       (λ w w′ p. let q = one-passed a p in sum-one c (q .0) a a w (q .1) (q .1) w′)
 
   pub negative-determined : (a : List ℕ) (r s : ℤ) (out′ out″ : List ℕ) → Negative c a out r out′ → Negative c a out s out″ → (r ≡ s) × (out′ ≡ out″)
   negative-determined a r s out′ out″ =
-      writes-one (curve-stages c ++ divisor-of c a ++ buffer out) (one-buffer-sound a)
+      writes-one (curve-stages c ++ divisor-of c a) (one-sound c a) room out
       (λ w w′ p. let q = one-passed a p in negative-one c (q .0) a w w′ (q .1))
 
   pub multiple-determined : (a : List ℕ) (n r s : ℤ) (out′ out″ : List ℕ) → Multiple c a n out r out′ → Multiple c a n out s out″
       → (r ≡ s) × (out′ ≡ out″)
   multiple-determined a n r s out′ out″ =
-      writes-one (curve-stages c ++ divisor-of c a ++ buffer out) (one-buffer-sound a)
+      writes-one (curve-stages c ++ divisor-of c a) (one-sound c a) room out
       (λ w w′ p. let q = one-passed a p in multiple-one c (q .0) a (q .1) n w w′)
 
   pub list-determined : (s : List ℕ) (r t : ℤ) (out′ out″ : List ℕ) → ListSum c s out r out′ → ListSum c s out t out″ → (r ≡ t) × (out′ ≡ out″)
   list-determined s r t out′ out″ =
-      writes-one (curve-stages c ++ list-of c s ++ buffer out)
-      (sound-append (curve-stages c ++ list-of c s) (buffer out) (list-of-sound c s) (buffer-sound out)) (λ w w′ p. one (list-passed s p) w w′)
+      writes-one (curve-stages c ++ list-of c s) (list-of-sound c s) room out (λ w w′ p. one (list-passed s p) w w′)
     where
       one : AcceptedCurve c → (w w′ : List ℕ) → (rs : List (List ℕ)) × Listed (modulus c) (equation c) s rs × IsListSum c rs w
           → (rs : List (List ℕ)) × Listed (modulus c) (equation c) s rs × IsListSum c rs w′ → w ≡ w′

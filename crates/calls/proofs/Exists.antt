@@ -5,9 +5,9 @@
 --   one-passes, two-passes, list-passes    what a call checks before the buffer is passed on an accepted curve with accepted divisors
 --   sum-answered, double-answered, negative-answered, multiple-answered, list-answered   each call has an answer
 use mathlib.Core.Path.{refl}
-use mathlib.Core.Logic.{inl, inr}
 use mathlib.Core.List.{List, [], _∷_, _++_}
 use Prim.Native.Nat.{ℕ, suc, _≤_}
+use native.Mathlib.Omega.{arith}
 use native.Mathlib.Decide.{decLe}
 use lib.ListN.{length, drop, replicate}
 use lib.IntN.{ℤ, pos, negsuc}
@@ -20,13 +20,14 @@ use Rattle.ideal.proofs.Finite.{BasedIdeal, product-based, productof-based}
 use Rattle.record.specs.Cause.{Stage, Passes}
 use Rattle.record.specs.Curve.{modulus, equation, curve-stages, AcceptedCurve, setting-of, accepted-limit}
 use Rattle.record.specs.Listed.{Listed, list-limit}
-use Rattle.record.proofs.Cause.{passes-append, first-append}
+use Rattle.record.proofs.Cause.{passes-append}
 use Rattle.record.proofs.Suffices.{OneRecord, RecordWith, ReducedRecord, record-with, record-reduced}
-use Rattle.calls.specs.Answer.{minus, Writes, refused, written}
+use Rattle.calls.specs.Answer.{minus, Writes}
 use Rattle.calls.specs.Class.{Ring, Ideal, poles-on, zero-record, ReducedOf, IsSum, IsNegative, IsListSum, IsMultiple}
-use Rattle.calls.specs.Call.{Sum, Double, Negative, Multiple, ListSum, divisor-of, list-of, room, buffer}
+use Rattle.calls.specs.Call.{Sum, Double, Negative, Multiple, ListSum, divisor-of, list-of}
 use Rattle.calls.proofs.Class.{Accepted, AcceptedRow, accepted-based, all-based}
 use Rattle.calls.proofs.Multiples.{list-class, copies-accepted}
+use Rattle.calls.proofs.Answers.{writes-short, writes-enough}
 
 module _ (c : List ℕ) (A : AcceptedCurve c) where
   abbrev P : Poles (Ring c)
@@ -67,13 +68,13 @@ module _ (c : List ℕ) (A : AcceptedCurve c) where
           at : (w : List ℕ) × IsNegative c m w → (w : List ℕ) × IsMultiple c a (negsuc n) w
           at (w, t) = (w, (m, s, t))
 
-pub writes-some : (ss : List Stage) → Passes ss → {Good : List ℕ → Type 0} → (w : List ℕ) × Good w → (out : List ℕ)
-    → (r : ℤ) × (out′ : List ℕ) × Writes (ss ++ buffer out) Good out r out′
-writes-some ss p {Good} (w, g) out = go (decLe room (length out))
+pub writes-some : {least : ℕ} (ss : List Stage) → Passes ss → {Good : List ℕ → Type 0} → (w : List ℕ) × Good w → (out : List ℕ)
+    → (r : ℤ) × (out′ : List ℕ) × Writes least ss Good out r out′
+writes-some {least} ss p {Good} (w, g) out = go (decLe least (length out))
   where
-    go : Dec (room ≤ length out) → (r : ℤ) × (out′ : List ℕ) × Writes (ss ++ buffer out) Good out r out′
-    go (yes l) = (pos (length w), w ++ drop (length w) out, written w (passes-append ss (buffer out) .1 (p, (l, tt))) g refl refl)
-    go (no l) = (minus 10, out, refused 10 (first-append ss (buffer out) 10 .1 (inr (p, inl (l, refl)))) refl refl)
+    go : Dec (least ≤ length out) → (r : ℤ) × (out′ : List ℕ) × Writes least ss Good out r out′
+    go (yes l) = (pos (length w), w ++ drop (length w) out, writes-enough ss p w l g refl refl)
+    go (no l) = (minus 10, out, writes-short ss p (omega (arith, l)) refl refl)
 
 module _ (c : List ℕ) (A : AcceptedCurve c) where
   pub one-passes : (a : List ℕ) → Accepted c a → Passes (curve-stages c ++ divisor-of c a)

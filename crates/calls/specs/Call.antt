@@ -1,6 +1,7 @@
 -- The nine calls. c is the curve's bytes, a and b a divisor's, s a list's, out the result buffer's. Document 01's order of causes: the
 -- curve; then 11; then each divisor from first to last; last 10.
---   divisor-of c a, list-of c s, buffer out      the stages of a divisor, of a list and of the result buffer; room: its least length
+--   divisor-of c a, list-of c s  the stages of a divisor and of a list
+--   room                         the least length of a buffer for a divisor record
 --   one-if b, tally kind rs      how many of the records have the kind
 --   CheckCurve c r               CheckDivisor c a r
 --   Sum c a b out r out′         Double c a out r out′       Negative c a out r out′
@@ -30,12 +31,9 @@ divisor-of c a = divisor-stages (modulus c) (equation c) a
 abbrev pub list-of : (c s : List ℕ) → List Stage
 list-of c s = must 11 (length s ≤ list-limit) ∷ list-stage (modulus c) (equation c) s ∷ []
 
--- the least length of a result buffer
+-- the least length of a result buffer for a divisor record
 abbrev pub room : ℕ
 room = 40
-
-abbrev pub buffer : List ℕ → List Stage
-buffer out = must 10 (room ≤ length out) ∷ []
 
 abbrev pub CheckCurve : List ℕ → ℤ → Type 0
 CheckCurve c = Returns (curve-stages c) (λ r. r ≡ pos 1)
@@ -44,20 +42,20 @@ abbrev pub CheckDivisor : (c a : List ℕ) → ℤ → Type 0
 CheckDivisor c a = Returns (curve-stages c ++ divisor-of c a) (λ r. r ≡ pos 1)
 
 abbrev pub Sum : (c a b out : List ℕ) → ℤ → List ℕ → Type 0
-Sum c a b out = Writes (curve-stages c ++ divisor-of c a ++ divisor-of c b ++ buffer out) (IsSum c a b) out
+Sum c a b out = Writes room (curve-stages c ++ divisor-of c a ++ divisor-of c b) (IsSum c a b) out
 
 abbrev pub Double : (c a out : List ℕ) → ℤ → List ℕ → Type 0
-Double c a out = Writes (curve-stages c ++ divisor-of c a ++ buffer out) (IsSum c a a) out
+Double c a out = Writes room (curve-stages c ++ divisor-of c a) (IsSum c a a) out
 
 abbrev pub Negative : (c a out : List ℕ) → ℤ → List ℕ → Type 0
-Negative c a out = Writes (curve-stages c ++ divisor-of c a ++ buffer out) (IsNegative c a) out
+Negative c a out = Writes room (curve-stages c ++ divisor-of c a) (IsNegative c a) out
 
 abbrev pub Multiple : (c a : List ℕ) → ℤ → List ℕ → ℤ → List ℕ → Type 0
-Multiple c a n out = Writes (curve-stages c ++ divisor-of c a ++ buffer out) (IsMultiple c a n) out
+Multiple c a n out = Writes room (curve-stages c ++ divisor-of c a) (IsMultiple c a n) out
 
 abbrev pub ListSum : (c s out : List ℕ) → ℤ → List ℕ → Type 0
 ListSum c s out =
-    Writes (curve-stages c ++ list-of c s ++ buffer out)
+    Writes room (curve-stages c ++ list-of c s)
     (λ w. (rs : List (List ℕ)) × Listed (modulus c) (equation c) s rs × IsListSum c rs w)
     out
 

@@ -7,7 +7,7 @@
 use mathlib.Core.Path.{_≡_, refl, sym, subst}
 use mathlib.Core.Bool.{Bool, true}
 use mathlib.Core.List.{List, [], _∷_, _++_}
-use Prim.Native.Nat.{ℕ, suc, _+_, _≤_}
+use Prim.Native.Nat.{ℕ, suc, _+_}
 use native.Mathlib.Omega.{arith}
 use lib.Dec.{T, eqb, eqb→eq}
 use lib.ListN.{length, drop, replicate}
@@ -16,12 +16,12 @@ use Rattle.algebra.proofs.Norm.{E}
 use Rattle.algebra.proofs.Test.{both, both-left, both-right}
 use Rattle.prime.specs.Prime.{Prime}
 use Rattle.ideal.proofs.Every.{Every}
-use Rattle.record.specs.Cause.{Passes, FirstCause}
+use Rattle.record.specs.Cause.{FirstCause}
 use Rattle.record.specs.Curve.{modulus, curve-stages, AcceptedCurve, accepted-prime}
-use Rattle.record.proofs.Cause.{passes-append}
-use Rattle.calls.specs.Answer.{minus, written, refused, answered}
+use Rattle.calls.specs.Answer.{minus, refused, answered}
 use Rattle.calls.specs.Class.{IsSum, IsListSum}
-use Rattle.calls.specs.Call.{divisor-of, buffer, room}
+use Rattle.calls.specs.Call.{divisor-of}
+use Rattle.calls.proofs.Answers.{writes-enough}
 use Rattle.calls.proofs.Class.{Accepted}
 use Rattle.calls.proofs.Multiples.{list-single, multiple-add}
 use Rattle.calls.proofs.Exists.{one-passes, two-passes}
@@ -151,27 +151,20 @@ means-sound (curve-refused c n) k t =
     subst (FirstCause (curve-stages c)) (sym (eqb→eq n 5 (both-left (eqb n 5) _ t))) (singular-sound c k (both-right (eqb n 5) _ t))
 means-sound (curve-accepted c) k t = curve-sound c k t
 
-module _ (c : List ℕ) (A : AcceptedCurve c) (a : List ℕ) (ra : Accepted c a) (out : List ℕ) (l : room ≤ length out) where
-  one-buffer : Passes (curve-stages c ++ divisor-of c a ++ buffer out)
-  one-buffer = passes-append (curve-stages c ++ divisor-of c a) (buffer out) .1 (one-passes c A a ra, (l, tt))
-
-  two-buffer : (b : List ℕ) → Accepted c b → Passes (curve-stages c ++ divisor-of c a ++ divisor-of c b ++ buffer out)
-  two-buffer b rb = passes-append (curve-stages c ++ divisor-of c a ++ divisor-of c b) (buffer out) .1 (two-passes c A a b ra rb, (l, tt))
-
 pub answer : (r : Row) → Means r → Answer r
 answer (point c a b w) (A, ra, i) = λ r e. check-divisor-determined c w r (pos 1) e (answered (one-passes c A w (ra .1)) refl)
 answer (sum c a b w) (A, ra, rb, s) =
     λ out r out′ l e.
-    sum-determined c out a b r (pos (length w)) out′ (w ++ drop (length w) out) e (written w (two-buffer c A a (ra .1) out l b (rb .1)) s refl refl)
+    sum-determined c out a b r (pos (length w)) out′ (w ++ drop (length w) out) e (writes-enough (curve-stages c ++ divisor-of c a ++ divisor-of c b) (two-passes c A a b (ra .1) (rb .1)) w l s refl refl)
 answer (double c a w) (A, ra, s) =
     λ out r out′ l e.
-    double-determined c out a r (pos (length w)) out′ (w ++ drop (length w) out) e (written w (one-buffer c A a (ra .1) out l) s refl refl)
+    double-determined c out a r (pos (length w)) out′ (w ++ drop (length w) out) e (writes-enough (curve-stages c ++ divisor-of c a) (one-passes c A a (ra .1)) w l s refl refl)
 answer (negative c a w) (A, ra, s) =
     λ out r out′ l e.
-    negative-determined c out a r (pos (length w)) out′ (w ++ drop (length w) out) e (written w (one-buffer c A a (ra .1) out l) s refl refl)
+    negative-determined c out a r (pos (length w)) out′ (w ++ drop (length w) out) e (writes-enough (curve-stages c ++ divisor-of c a) (one-passes c A a (ra .1)) w l s refl refl)
 answer (multiple c a n w) (A, ra, s) =
     λ out r out′ l e.
-    multiple-determined c out a (pos n) r (pos (length w)) out′ (w ++ drop (length w) out) e (written w (one-buffer c A a (ra .1) out l) s refl refl)
+    multiple-determined c out a (pos n) r (pos (length w)) out′ (w ++ drop (length w) out) e (writes-enough (curve-stages c ++ divisor-of c a) (one-passes c A a (ra .1)) w l s refl refl)
 answer (divisor-refused c a n) f = λ r e. check-divisor-determined c a r (minus n) e (refused n f refl)
 answer (divisor-accepted c a) (A, ra) = λ r e. check-divisor-determined c a r (pos 1) e (answered (one-passes c A a (ra .1)) refl)
 answer (curve-refused c n) f = λ r e. check-curve-determined c r (minus n) e (refused n f refl)
