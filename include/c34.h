@@ -1,13 +1,14 @@
-/* Divisor class arithmetic on C34 curves over prime fields: the nine calls of libc34.a, for C and C++.
+/* Divisor class arithmetic on C34 curves over prime fields: the ten calls of libc34.a, for C and C++.
 
    The curve is y^3 + x^4 + c8 xy^2 + c7 x^2y + c6 x^3 + c5 y^2 + c4 xy + c3 x^2 + c2 y + c1 x + c0 over the field of
    p elements, p a prime from 2 to 2147483647. A divisor class is named by its reduced divisor, which is one record.
 
    Records. Two bytes of length (of the whole record), two bytes of kind, then numbers of four bytes; all unsigned and
-   little-endian.
+   little-endian, but for the numerators of fractions, which are signed (two's complement).
 
      kind                length  numbers in order             polynomials
      C34_CURVE       34      44  p, c0 to c8
+     C34_FRACTIONS   36      76  numerator and denominator of c0, of c1, and so on to c8: a curve over the rationals
      C34_ZERO         0       4  none                         1
      C34_KIND_11     11      12  f0, g0                       x + f0; y + g0
      C34_KIND_21     21      20  f0, f1, g0, g1               y + f1 x + f0; x^2 + g1 x + g0
@@ -25,13 +26,15 @@
    functions of the archive that see to this. The functions themselves, reached by a pointer to them or by a name in
    parentheses, as (c34_sum)(...), want a pointer that is not null even with length 0.
 
-   Results. A call that writes needs a buffer of at least C34_BUFFER bytes, whatever the result. It writes the record
-   from the buffer's start, returns the record's length and leaves the bytes after it as they were. On a refusal every
-   buffer stays as it was and the call returns minus the number of the refusal (C34_REFUSED_...).
+   Results. A call that writes a divisor needs a buffer of at least C34_BUFFER bytes, whatever the result, and the one that
+   writes a curve C34_CURVE_LENGTH. It writes the record from the buffer's start, returns the record's length and leaves the
+   bytes after it as they were. On a refusal every buffer stays as it was and the call returns minus the number of the
+   refusal (C34_REFUSED_...).
 
    Refusals. The first cause in this order decides: the curve (1 for its size, 2, 1 for the kind's length, 3, 4, 5);
    C34_REFUSED_LIST_LIMIT; each divisor from first to last (6 for its size, 7, 6 for the kind's length, 8, 9);
-   C34_REFUSED_BUFFER. No call keeps state: all may be made from several threads at once. */
+   C34_REFUSED_BUFFER. Where fractions are reduced: 12, 3, 13, 5, 10. No call keeps state: all may be made from several
+   threads at once. */
 #ifndef C34_H
 #define C34_H
 
@@ -49,13 +52,15 @@ enum {
     C34_KIND_21 = 21,
     C34_KIND_22 = 22,
     C34_KIND_31 = 31,
-    C34_CURVE = 34
+    C34_CURVE = 34,
+    C34_FRACTIONS = 36
 };
 
 /* Lengths in bytes. */
 enum {
-    C34_CURVE_LENGTH = 44,
-    C34_BUFFER = 40,       /* the least result buffer, and the longest divisor record */
+    C34_CURVE_LENGTH = 44, /* also the least result buffer of c34_reduce_curve */
+    C34_FRACTIONS_LENGTH = 76,
+    C34_BUFFER = 40,       /* the least result buffer for a divisor, and the longest divisor record */
     C34_LIST_LIMIT = 32768 /* the longest list */
 };
 
@@ -71,8 +76,11 @@ enum {
     C34_REFUSED_DIVISOR_KIND = 7,    /* divisor kind not 0, 11, 21, 22 or 31 */
     C34_REFUSED_DIVISOR_NUMBER = 8,  /* divisor number not below p */
     C34_REFUSED_NOT_A_BASIS = 9,     /* the ideal has a nonzero element made of the remaining monomials alone */
-    C34_REFUSED_BUFFER = 10,         /* result buffer under 40 bytes */
-    C34_REFUSED_LIST_LIMIT = 11      /* list over 32,768 bytes */
+    C34_REFUSED_BUFFER = 10,         /* result buffer under 40 bytes, for a curve under 44 */
+    C34_REFUSED_LIST_LIMIT = 11,     /* list over 32,768 bytes */
+    C34_REFUSED_FRACTIONS = 12,      /* fractions: bytes under 4, length field unlike the bytes given, kind not 36, or
+                                        length not 76 */
+    C34_REFUSED_DENOMINATOR = 13     /* a denominator divisible by p, zero included */
 };
 
 /* Whether the bytes are a nonsingular curve.
@@ -123,6 +131,12 @@ int32_t c34_compare(const uint8_t *curve, size_t curve_len, const uint8_t *a, si
    6 to 9 for each record from first to last. Writes nothing. */
 int32_t c34_count(const uint8_t *curve, size_t curve_len, const uint8_t *list, size_t list_len, uint32_t kind);
 
+/* The curve over the field of p elements of a curve with fractions: each coefficient is the number from 0 to p - 1 that
+   times the denominator gives the numerator modulo p. Fractions are taken as written: 5/5 is refused for p = 5.
+   Domain: any bytes, any p. Result: 44. Refusals: 12, 3, 13, 5, then 10 for a buffer under 44 bytes.
+   Buffer: the curve's record at its start; the rest stays. */
+int32_t c34_reduce_curve(const uint8_t *fractions, size_t fractions_len, uint32_t p, uint8_t *out, size_t out_len);
+
 /* A slice's pointer, or that of a byte of our own for a null one: it is passed on with length 0, and never used. */
 static inline const uint8_t *c34_read(const uint8_t *bytes)
 {
@@ -157,5 +171,7 @@ static inline uint8_t *c34_written(uint8_t *bytes)
     (c34_compare)(c34_read(curve), (curve_len), c34_read(a), (a_len), c34_read(b), (b_len))
 #define c34_count(curve, curve_len, list, list_len, kind) \
     (c34_count)(c34_read(curve), (curve_len), c34_read(list), (list_len), (kind))
+#define c34_reduce_curve(fractions, fractions_len, p, out, out_len) \
+    (c34_reduce_curve)(c34_read(fractions), (fractions_len), (p), c34_written(out), (out_len))
 
 #endif

@@ -1,18 +1,20 @@
 -- Each input of a call has at most one answer: what it returns and the bytes that it leaves.
 --   check-curve-determined, check-divisor-determined, compare-determined, count-determined     calls that write nothing
---   sum-determined, double-determined, negative-determined, multiple-determined, list-determined   calls that write
+--   sum-determined, double-determined, negative-determined, multiple-determined, list-determined, reduce-determined   calls that write
 use mathlib.Core.Path.{_≡_, sym, _∙_, ap, subst}
 use mathlib.Core.Logic.{_⊎_, inl, inr}
 use mathlib.Core.List.{List, _++_}
 use Prim.Native.Nat.{ℕ}
 use lib.IntN.{ℤ, pos}
 use Rattle.record.specs.Cause.{Passes}
-use Rattle.record.specs.Curve.{modulus, equation, curve-stages, AcceptedCurve}
+use Rattle.record.specs.Curve.{curve-size, modulus, equation, curve-stages, AcceptedCurve}
 use Rattle.record.specs.Listed.{Listed}
 use Rattle.record.proofs.Cause.{passes-append}
+use Rattle.record.specs.Fractions.{fractions-stages}
 use Rattle.record.proofs.Lists.{curve-sound, listed-once}
+use Rattle.record.proofs.Fractions.{fractions-sound, reduced-one}
 use Rattle.calls.specs.Class.{IsListSum}
-use Rattle.calls.specs.Call.{CheckCurve, CheckDivisor, Sum, Double, Negative, Multiple, ListSum, Compare, Count, divisor-of, list-of, room, tally}
+use Rattle.calls.specs.Call.{CheckCurve, CheckDivisor, Sum, Double, Negative, Multiple, ListSum, Compare, Count, ReduceCurve, divisor-of, list-of, room, tally}
 use Rattle.calls.proofs.Class.{Accepted, sum-one, negative-one}
 use Rattle.calls.proofs.Multiples.{list-one, multiple-one}
 use Rattle.calls.proofs.Answers.{one-sound, two-sound, list-of-sound, writes-one, returns-one}
@@ -87,3 +89,9 @@ module _ (c out : List ℕ) where
       one A w w′ (rs, l, h) (rs′, l′, h′) =
           list-one c A rs w w′ (l .accepted) h
           (subst (λ (ws : List (List ℕ)). IsListSum c ws w′) (listed-once (modulus c) (equation c) s rs′ rs l′ l) h′)
+
+pub reduce-determined : (s : List ℕ) (p : ℕ) (out : List ℕ) (r t : ℤ) (out′ out″ : List ℕ) → ReduceCurve s p out r out′ → ReduceCurve s p out t out″
+    → (r ≡ t) × (out′ ≡ out″)
+reduce-determined s p out r t out′ out″ =
+    writes-one (fractions-stages s p) (fractions-sound s p) curve-size out
+    (λ w w′ q g g′. reduced-one p (q .1 .0 .0) s w w′ (q .1 .1 .0) (g .0) (g′ .0))

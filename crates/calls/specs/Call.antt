@@ -1,5 +1,5 @@
--- The nine calls. c is the curve's bytes, a and b a divisor's, s a list's, out the result buffer's. Document 01's order of causes: the
--- curve; then 11; then each divisor from first to last; last 10.
+-- The calls. c is the curve's bytes, a and b a divisor's, s a list's or those of fractions, out the result buffer's. Document 01's order of
+-- causes: the curve; then 11; then each divisor from first to last; last 10.
 --   divisor-of c a, list-of c s  the stages of a divisor and of a list
 --   room                         the least length of a buffer for a divisor record
 --   one-if b, tally kind rs      how many of the records have the kind
@@ -7,6 +7,7 @@
 --   Sum c a b out r out′         Double c a out r out′       Negative c a out r out′
 --   Multiple c a n out r out′    ListSum c s out r out′
 --   Compare c a b r              Count c s kind r
+--   ReduceCurve s p out r out′   document 02, 2026-01
 use mathlib.Core.Path.{_≡_}
 use mathlib.Core.Logic.{_⊎_}
 use mathlib.Core.List.{List, [], _∷_, _++_}
@@ -17,8 +18,9 @@ use lib.IntN.{ℤ, pos}
 use lib.Dec.{eqb}
 use Rattle.layout.specs.Layout.{number2}
 use Rattle.record.specs.Cause.{Stage, must}
-use Rattle.record.specs.Curve.{modulus, equation, curve-stages}
+use Rattle.record.specs.Curve.{curve-size, modulus, equation, curve-stages}
 use Rattle.record.specs.Divisor.{divisor-stages}
+use Rattle.record.specs.Fractions.{AcceptedReduced, fractions-stages}
 use Rattle.record.specs.Listed.{Listed, list-stage, list-limit}
 use Rattle.calls.specs.Answer.{Writes, Returns}
 use Rattle.calls.specs.Class.{IsSum, IsNegative, IsMultiple, IsListSum}
@@ -78,3 +80,7 @@ abbrev pub Count : (c s : List ℕ) → ℕ → ℤ → Type 0
 Count c s kind =
     Returns (curve-stages c ++ list-of c s)
     (λ r. (rs : List (List ℕ)) × Listed (modulus c) (equation c) s rs × (r ≡ pos (tally kind rs)))
+
+-- "The result buffer needs 44 bytes", the length of the curve record.
+abbrev pub ReduceCurve : (s : List ℕ) (p : ℕ) (out : List ℕ) → ℤ → List ℕ → Type 0
+ReduceCurve s p out = Writes curve-size (fractions-stages s p) (AcceptedReduced s p) out

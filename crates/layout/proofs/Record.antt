@@ -1,13 +1,15 @@
 -- Records: what is read of one that was written, and that what reads as a record is one.
---   record-length, record-kind, record-numbers    the parts of a record, read back
+--   record-length, record-kind, record-numbers    the parts of a record, read back, with something after it
+--   alone-length, alone-kind, alone-number        … with nothing after it
 --   record-whole           bytes whose first number is their own length are a record
 use mathlib.Core.Path.{_≡_, sym, ap, _∙_}
-use mathlib.Core.List.{List, [], _∷_, _++_, append-assoc}
+use mathlib.Core.List.{List, [], _∷_, _++_, append-assoc, append-nil}
 use Prim.Native.Nat.{ℕ, suc, _+_, _*_, _≤_, _<_}
 use native.Mathlib.Omega.{arith}
-use lib.ListN.{length}
-use Rattle.layout.specs.Layout.{Bytes, Words, number2, numbers, bytes2, all-bytes4, record-bytes}
-use Rattle.layout.proofs.Read.{number2-bytes2, bytes2-number2, number2-behind, numbers-behind, length-numbers, numbers-all-bytes4, all-bytes4-numbers}
+use lib.ListN.{length, getD}
+use Rattle.layout.specs.Layout.{Bytes, Words, number2, number4, numbers, bytes2, all-bytes4, record-bytes}
+use Rattle.layout.proofs.Bytes.{length-record}
+use Rattle.layout.proofs.Read.{number2-bytes2, bytes2-number2, number2-behind, numbers-behind, length-numbers, numbers-at, numbers-all-bytes4, all-bytes4-numbers}
 
 pub record-length : (kind : ℕ) (ns rest : List ℕ) → length ns ≤ 16000 → number2 (record-bytes kind ns ++ rest) 0 ≡ 4 + 4 * length ns
 unfolding record-bytes
@@ -22,6 +24,23 @@ pub record-numbers : (kind : ℕ) (ns rest : List ℕ) → Words ns → numbers 
 unfolding record-bytes bytes2
 record-numbers kind ns rest h =
     numbers-behind (bytes2 (4 + 4 * length ns) ++ bytes2 kind) (all-bytes4 ns ++ rest) 0 (length ns) ∙ numbers-all-bytes4 ns rest h
+
+module _ (kind : ℕ) (ns : List ℕ) where
+  -- a record with nothing after it
+  nothing-after : record-bytes kind ns ++ [] ≡ record-bytes kind ns
+  nothing-after = append-nil (record-bytes kind ns)
+
+  pub alone-length : length ns ≤ 16000 → number2 (record-bytes kind ns) 0 ≡ length (record-bytes kind ns)
+  alone-length h = ap (λ (s : List ℕ). number2 s 0) (sym nothing-after) ∙ record-length kind ns [] h ∙ sym (length-record kind ns)
+
+  pub alone-kind : kind < 65536 → number2 (record-bytes kind ns) 2 ≡ kind
+  alone-kind h = ap (λ (s : List ℕ). number2 s 2) (sym nothing-after) ∙ record-kind kind ns [] h
+
+  pub alone-number : Words ns → (i : ℕ) → i < length ns → number4 (record-bytes kind ns) (4 + 4 * i) ≡ getD ns i 0
+  alone-number w i h =
+      sym (numbers-at (record-bytes kind ns) 4 (length ns) i h)
+      ∙ ap (λ (s : List ℕ). getD (numbers s 4 (length ns)) i 0) (sym nothing-after)
+      ∙ ap (λ (l : List ℕ). getD l i 0) (record-numbers kind ns [] w)
 
 -- the four bytes before the numbers
 record-front : (x0 x1 x2 x3 : ℕ) (t : List ℕ) (c : ℕ) → Bytes (x0 ∷ x1 ∷ x2 ∷ x3 ∷ t) → length t ≡ 4 * c

@@ -11,7 +11,7 @@
 --   read-based         such a value is a basis
 use mathlib.Core.Path.{_≡_, sym, ap, _∙_}
 use mathlib.Core.Logic.{Iff·trans}
-use mathlib.Core.List.{List, [], _∷_, append-nil}
+use mathlib.Core.List.{List, [], _∷_}
 use Prim.Native.Nat.{ℕ, zero, suc, _+_, _*_, _<_, _≤_}
 use native.Mathlib.Omega.{arith}
 use lib.ListN.{length, getD, take}
@@ -25,7 +25,7 @@ use Rattle.layout.specs.Layout as layout
 use Rattle.layout.specs.Layout.{Bytes, Words, number2, number4, record-bytes}
 use Rattle.layout.proofs.Bytes.{length-record, bytes-record}
 use Rattle.layout.proofs.Read.{length-numbers, numbers-at}
-use Rattle.layout.proofs.Record.{record-length, record-kind, record-numbers}
+use Rattle.layout.proofs.Record.{alone-length, alone-kind, alone-number}
 use Rattle.basis.specs.Divisor.{numbers-of, residues, Shaped, BasisValue}
 use Rattle.basis.specs.declared.Divisor.{Divisor}
 use Rattle.record.specs.Divisor.{of-kind, number-at, AcceptedDivisor, IdealOfBytes}
@@ -42,22 +42,16 @@ take-below b (suc c) (a ∷ l) pos h (suc i) = take-below b c l pos (λ j. h (su
 
 module _ (κ : Kind) (ns : List ℕ) (many : length ns ≡ count κ) where
   pub written-kind : number2 (record-bytes (code κ) ns) 2 ≡ code κ
-  written-kind = ap (λ (s : List ℕ). number2 s 2) (sym (append-nil _)) ∙ record-kind (code κ) ns [] (code-small κ)
+  written-kind = alone-kind (code κ) ns (code-small κ)
 
   pub written-length : length (record-bytes (code κ) ns) ≡ size κ
   written-length = length-record (code κ) ns ∙ ap (λ (c : ℕ). 4 + 4 * c) many
 
   pub written-own : number2 (record-bytes (code κ) ns) 0 ≡ length (record-bytes (code κ) ns)
-  written-own =
-      ap (λ (s : List ℕ). number2 s 0) (sym (append-nil _))
-      ∙ record-length (code κ) ns [] (omega (arith, count-small κ))
-      ∙ sym (length-record (code κ) ns)
+  written-own = alone-length (code κ) ns (omega (arith, count-small κ))
 
   pub written-number : Words ns → (i : ℕ) → i < count κ → number4 (record-bytes (code κ) ns) (4 + 4 * i) ≡ getD ns i 0
-  written-number w i h =
-      let s = record-bytes (code κ) ns in
-      let all : layout.numbers s 4 (length ns) ≡ ns = ap (λ (t : List ℕ). layout.numbers t 4 (length ns)) (sym (append-nil s)) ∙ record-numbers (code κ) ns [] w in
-      sym (numbers-at s 4 (length ns) i (omega arith)) ∙ ap (λ (l : List ℕ). getD l i 0) all
+  written-number w i h = alone-number (code κ) ns w i (omega arith)
 
   module _ (p : ℕ) (C : Curve (Z p)) (w : Words ns) where
     written-residue : (i : ℕ) → i < count κ → number-at p (record-bytes (code κ) ns) i ≡ el p (getD ns i 0)

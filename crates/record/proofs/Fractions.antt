@@ -1,0 +1,99 @@
+-- Records of fractions, and the curve records that they are reduced to.
+--   fractions-sound        what is checked refuses nothing that it passes, and with one number only
+--   denominator-unit, denominator-zero     a denominator is not zero modulo p exactly if p does not divide it
+--   quotient-one           there is at most one quotient by a number that p does not divide
+--   reduced-one            there is at most one reduced curve
+--   below-words            p and nine numbers below it are words
+--   written-modulus, written-coefficient   what is read of the curve record of p and nine numbers
+--   written-curve          it is accepted if p and the numbers pass and the curve is nonsingular
+use mathlib.Core.Path.{_≡_, sym, ap, _∙_, subst}
+use mathlib.Core.List.{List, [], _∷_}
+use Prim.Native.Nat.{ℕ, zero, suc, _+_, _*_, _%_, _<_, _≤_}
+use native.Mathlib.Omega.{arith}
+use native.Mathlib.Nat.{zero-mod}
+use native.Mathlib.Decide.{decLt}
+use lib.ListN.{length, getD, List·getD-eq-default}
+use lib.Seq.{ext-getD}
+use lib.IntN.{ℤ}
+use Rattle.algebra.specs.Ring.{CommRing, Field}
+use Rattle.algebra.proofs.Norm.{unit}
+use Rattle.algebra.proofs.Solve.{solve-from, given, _⊞_, _⊠_, ⊟_}
+use Rattle.prime.specs.Prime.{Prime}
+use Rattle.field.specs.Residue.{Z, el}
+use Rattle.field.proofs.Element.{el-zero, el-same, el-mod-same, el-inj}
+use Rattle.field.proofs.Invert.{prime-large}
+use Rattle.prime_field.specs.Field.{F}
+use Rattle.nonsingular.specs.Nonsingular.{Nonsingular}
+use Rattle.layout.specs.Layout.{Words, number4, record-bytes}
+use Rattle.layout.proofs.Bytes.{length-record}
+use Rattle.layout.proofs.Record.{alone-length, alone-kind, alone-number}
+use Rattle.record.specs.Cause.{Passes}
+use Rattle.record.specs.Curve.{limit, curve-kind, modulus, coefficient-number, equation, AcceptedCurve}
+use Rattle.record.specs.Fractions.{denominator, Quotient, ReducedCurve, fractions-stages}
+use Rattle.record.proofs.Cause.{AllSound, sound-must}
+
+pub fractions-sound : (s : List ℕ) (p : ℕ) → AllSound (fractions-stages s p)
+fractions-sound s p = (sound-must _ _, (sound-must _ _, (sound-must _ _, (sound-must _ _, tt))))
+
+-- x·d = a and y·d = a make x = y, if d has the inverse i
+same-quotient : (R : CommRing) (x y d i a : R .Car) → R .mul x d ≡ a → R .mul y d ≡ a → R .mul d i ≡ R .one → x ≡ y
+same-quotient R x y d i a e f g =
+    solve-from R 5 (λ x y d i a. given i (x ⊠ d) a ∷ given (⊟ i) (y ⊠ d) a ∷ given (y ⊞ ⊟ x) (d ⊠ i) unit ∷ []) (λ x y d i a. x) (λ x y d i a. y) tt
+    x y d i a (e, (f, (g, tt)))
+
+module _ (p : ℕ) (h : Prime p) where
+  pub denominator-zero : (d : ℕ) → d % p ≡ 0 → el p d ≡ Z p .zero
+  denominator-zero d e = el-same p d 0 (e ∙ sym (zero-mod p)) ∙ el-zero p
+
+  pub denominator-unit : (d : ℕ) → ¬ (d % p ≡ 0) → ¬ (el p d ≡ Z p .zero)
+  denominator-unit d n e = n (el-mod-same p d 0 (omega (arith, prime-large p h)) (e ∙ sym (el-zero p)) ∙ zero-mod p)
+
+  pub quotient-one : (a : ℤ) (d c c′ : ℕ) → ¬ (d % p ≡ 0) → Quotient p a d c → Quotient p a d c′ → c ≡ c′
+  quotient-one a d c c′ n q q′ =
+      el-inj p c c′ (q .below) (q′ .below)
+      (same-quotient (Z p) (el p c) (el p c′) (el p d) (F p h .inv (el p d)) _ (q .times) (q′ .times) (F p h .mul-inv (el p d) (denominator-unit d n)))
+
+  pub reduced-one : (s w w′ : List ℕ) → ((i : ℕ) → i < 9 → ¬ (denominator s i % p ≡ 0)) → ReducedCurve s p w → ReducedCurve s p w′ → w ≡ w′
+  reduced-one s w w′ n r r′ = r .bytes ∙ ap (λ (cs : List ℕ). record-bytes curve-kind (p ∷ cs)) same ∙ sym (r′ .bytes)
+    where
+      same : r .cs ≡ r′ .cs
+      same =
+          ext-getD 0 (r .cs) (r′ .cs) (r .nine ∙ sym (r′ .nine))
+          (λ i l. let l : i < 9 = omega (arith, r .nine) in quotient-one _ _ _ _ (n i l) (r .each i l) (r′ .each i l))
+
+module _ (p : ℕ) (cs : List ℕ) (nine : length cs ≡ 9) where
+  abbrev w : List ℕ
+  w = record-bytes curve-kind (p ∷ cs)
+
+  pub below-words : p ≤ limit → ((i : ℕ) → i < 9 → getD cs i 0 < p) → Words (p ∷ cs)
+  below-words few below zero = omega arith
+  below-words few below (suc k) = go (decLt k 9)
+    where
+      go : Dec (k < 9) → getD cs k 0 < 4294967296
+      go (yes l) = omega (arith, below k l)
+      go (no l) = omega (arith, List·getD-eq-default cs 0 {n = k} (omega arith))
+
+  module _ (words : Words (p ∷ cs)) where
+    pub written-modulus : modulus w ≡ p
+    written-modulus = alone-number curve-kind (p ∷ cs) words 0 (omega arith)
+
+    pub written-coefficient : (i : ℕ) → i < 9 → coefficient-number w i ≡ getD cs i 0
+    written-coefficient i l =
+        ap (λ (k : ℕ). number4 w k) (omega arith) ∙ alone-number curve-kind (p ∷ cs) words (suc i) (omega arith)
+
+    pub written-curve : Prime p → p ≤ limit → ((i : ℕ) → i < 9 → getD cs i 0 < p) → Nonsingular (equation w) → AcceptedCurve w
+    written-curve prime few below smooth =
+        let long : length w ≡ 44 = omega (arith, length-record curve-kind (p ∷ cs), nine) in
+        let own = alone-length curve-kind (p ∷ cs) (omega (arith, nine)) in (
+          (omega (arith, long), own),
+          (
+            alone-kind curve-kind (p ∷ cs) (omega arith),
+            (
+              long,
+              (
+                subst (λ (n : ℕ). Prime n × (n ≤ limit)) (sym written-modulus) (prime, few),
+                (λ i l. rw (written-coefficient i l, written-modulus) (below i l), (smooth, tt)),
+              ),
+            ),
+          ),
+        )
