@@ -5,8 +5,8 @@ ghost use Rattle.record.specs.Curve.{curve-form};
 ghost use Rattle.record.specs.Divisor.{divisor-form};
 ghost use Rattle.form.specs.Contract.{Checked};
 
-// Is the length field that of the bytes given?
-fn sized(s: &[u8]) -> bool
+// Is the length field that of the bytes given? It serves every record, whatever its kind.
+pub fn sized(s: &[u8]) -> bool
     ensures { λ r. ⌜ Answers (Sized (now (s .entry))) r ⌝ }
 {
     if s.len() < 4 {

@@ -3,9 +3,15 @@ use basis::Divisor;
 use equation::Equation;
 use ground::Ground;
 ghost use mathlib.Core.Path.{_≡_};
+ghost use Prim.Native.Nat.{_≤_};
+ghost use Rattle.algebra.specs.Answers.{Answers};
+ghost use Rattle.prime.specs.Prime.{Prime};
+ghost use Rattle.nonsingular.specs.Nonsingular.{Nonsingular};
+ghost use Rattle.equation.specs.Equation.{curve-of};
 ghost use Rattle.ground.specs.Ground.{Grounded, AtGround};
+ghost use Rattle.record.specs.Curve.{limit};
 ghost use Rattle.form.specs.Contract.{Checked};
-ghost use Rattle.reader.specs.Contract.{WriteAsked, WriteAnswer, equation-stages};
+ghost use Rattle.reader.specs.Contract.{NonsingularAsked, WriteAsked, WriteAnswer, equation-stages};
 ghost use Rattle.reader.specs.Reading.{CurveRead, DivisorRead, TwoRead, NextRead};
 
 // The most bytes of a list.
@@ -38,22 +44,37 @@ pub enum NextAnswer {
     Refused(u8),
 }
 
+// Is p a prime from 2 to 2147483647?
+pub fn is_modulus(p: u32) -> bool
+    ensures { λ r. ⌜ Answers (Prime p × (p ≤ limit)) r ⌝ }
+{
+    if 2147483647 < p {
+        return false;
+    }
+    prime::is_prime(p)
+}
+
+// Is the curve of e nonsingular?
+pub fn is_nonsingular(e: Equation) -> bool
+    requires { ⌜ NonsingularAsked e ⌝ }
+    ensures { λ r. ⌜ Answers (Nonsingular (curve-of e)) r ⌝ }
+{
+    let cube = equation::cube(e);
+    equation::nonsingular(e, &cube)
+}
+
 // The refusal of a curve for its modulus, a coefficient or a singular point; 0 for none.
 fn equation_cause(e: Equation) -> u8
     requires { ⌜ e .a0 ≡ 1 ⌝ }
     ensures { λ r. ⌜ Checked (equation-stages e) r ⌝ }
 {
-    if 2147483647 < e.p {
-        return 3;
-    }
-    if !prime::is_prime(e.p) {
+    if !is_modulus(e.p) {
         return 3;
     }
     if !checks::coefficients_below(e) {
         return 4;
     }
-    let cube = equation::cube(e);
-    if !equation::nonsingular(e, &cube) {
+    if !is_nonsingular(e) {
         return 5;
     }
     0
