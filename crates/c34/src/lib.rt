@@ -1,6 +1,6 @@
-// The calls of the host. Each takes slices and numbers, checks them in document 01's order and returns a signed number:
+// The calls of the host. Each takes slices and numbers, checks them in the documents' order and returns a signed number:
 // minus the number of the refusal, or what the call is for.
-ghost use Rattle.calls.specs.Call.{CheckCurve, CheckDivisor, Sum, Double, Negative, Multiple, ListSum, Compare, Count};
+ghost use Rattle.calls.specs.Call.{CheckCurve, CheckDivisor, Sum, Double, Negative, Multiple, ListSum, Compare, Count, ReduceCurve};
 
 // 1 for an accepted curve.
 #[no_mangle]
@@ -72,4 +72,12 @@ pub extern "C" fn c34_count(curve: &[u8], list: &[u8], kind: u32) -> i32
     ensures { λ r. ⌜ Count (now (curve .entry)) (now (list .entry)) kind r ⌝ }
 {
     answer::count(curve, list, kind)
+}
+
+// The curve of a record of fractions modulo p.
+#[no_mangle]
+pub extern "C" fn c34_reduce_curve(fractions: &[u8], p: u32, out: &mut [u8]) -> i32
+    ensures { λ r. ⌜ ReduceCurve (now (fractions .entry)) p (now (out .entry)) r (now (out .exit)) ⌝ }
+{
+    fractions::reduce_curve(fractions, p, out)
 }

@@ -29,7 +29,7 @@ use Rattle.layout.proofs.Bytes.{length-record}
 use Rattle.layout.proofs.Record.{alone-length, alone-kind, alone-number}
 use Rattle.record.specs.Cause.{Passes}
 use Rattle.record.specs.Curve.{limit, curve-kind, modulus, coefficient-number, equation, AcceptedCurve}
-use Rattle.record.specs.Fractions.{denominator, Quotient, ReducedCurve, fractions-stages}
+use Rattle.record.specs.Fractions.{Quotient, ReducedCurve, DenominatorsPass, fractions-stages}
 use Rattle.record.proofs.Cause.{AllSound, sound-must}
 
 pub fractions-sound : (s : List ℕ) (p : ℕ) → AllSound (fractions-stages s p)
@@ -53,7 +53,7 @@ module _ (p : ℕ) (h : Prime p) where
       el-inj p c c′ (q .below) (q′ .below)
       (same-quotient (Z p) (el p c) (el p c′) (el p d) (F p h .inv (el p d)) _ (q .times) (q′ .times) (F p h .mul-inv (el p d) (denominator-unit d n)))
 
-  pub reduced-one : (s w w′ : List ℕ) → ((i : ℕ) → i < 9 → ¬ (denominator s i % p ≡ 0)) → ReducedCurve s p w → ReducedCurve s p w′ → w ≡ w′
+  pub reduced-one : (s w w′ : List ℕ) → DenominatorsPass s p → ReducedCurve s p w → ReducedCurve s p w′ → w ≡ w′
   reduced-one s w w′ n r r′ = r .bytes ∙ ap (λ (cs : List ℕ). record-bytes curve-kind (p ∷ cs)) same ∙ sym (r′ .bytes)
     where
       same : r .cs ≡ r′ .cs

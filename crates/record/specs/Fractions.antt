@@ -7,8 +7,8 @@
 --   Quotient p a d c       c is the number from 0 to p − 1 that times d gives a modulo p
 --   ReducedCurve s p w     w is the curve record of these numbers
 --   AcceptedReduced s p w  … and is accepted
---   fractions-form s       12
---   denominators-stage p s     13
+--   FractionsForm s        length and kind are right
+--   DenominatorsPass s p   no denominator is divisible by p
 --   fractions-stages s p   what is checked before the result buffer, in order: 12, 3, 13, 5
 use mathlib.Core.Path.{_≡_}
 use mathlib.Core.List.{List, [], _∷_}
@@ -60,15 +60,16 @@ pub record ReducedCurve (s : List ℕ) (p : ℕ) (w : List ℕ) : Type 0 where
 abbrev pub AcceptedReduced : (s : List ℕ) (p : ℕ) (w : List ℕ) → Type 0
 AcceptedReduced s p w = ReducedCurve s p w × AcceptedCurve w
 
--- "12, length or kind wrong, first of all"
-abbrev pub fractions-form : List ℕ → Stage
-fractions-form s = must 12 (Sized s × (number2 s 2 ≡ fractions-kind) × (length s ≡ fractions-size))
+-- otherwise: "length or kind wrong"
+abbrev pub FractionsForm : List ℕ → Type 0
+FractionsForm s = Sized s × (number2 s 2 ≡ fractions-kind) × (length s ≡ fractions-size)
 
--- "13, a denominator divisible by p, zero included"
-abbrev pub denominators-stage : ℕ → List ℕ → Stage
-denominators-stage p s = must 13 ((i : ℕ) → i < 9 → ¬ (denominator s i % p ≡ 0))
+-- otherwise: "a denominator divisible by p, zero included"
+abbrev pub DenominatorsPass : List ℕ → ℕ → Type 0
+DenominatorsPass s p = (i : ℕ) → i < 9 → ¬ (denominator s i % p ≡ 0)
 
--- "12 …; then 3; 13 …; then 5": behind 3 and 13 there is one reduced curve, and 5 says that it is singular
+-- "12, length or kind wrong, first of all; then 3; 13, a denominator divisible by p, zero included; then 5". Behind 3 and 13 there is one
+-- reduced curve, and 5 says that it is singular.
 abbrev pub fractions-stages : List ℕ → ℕ → List Stage
 fractions-stages s p =
-    fractions-form s ∷ prime-stage p ∷ denominators-stage p s ∷ must 5 ((w : List ℕ) × AcceptedReduced s p w) ∷ []
+    must 12 (FractionsForm s) ∷ prime-stage p ∷ must 13 (DenominatorsPass s p) ∷ must 5 ((w : List ℕ) × AcceptedReduced s p w) ∷ []

@@ -1,0 +1,6 @@
+-- Why the quotients of fractions modulo p are found.
+pub mod Signed
+pub mod Denominators
+pub mod Loops
+pub mod Reduced
+pub mod Written

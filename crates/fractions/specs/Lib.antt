@@ -1,0 +1,2 @@
+-- What the functions on records of fractions require and ensure.
+pub mod Contract
