@@ -22,7 +22,7 @@ rem-result c = search needs
 returns : tie.Need-returns
 returns c =
     let start = c .before .before in
-    record { below = mod-lt _ (start .pre .positive); is = el-mod (start .args .p) _ ∙ ap (el (start .args .p)) (c .read-u32 .ensures .is) }
+    record { below = mod-lt _ (start .pre .positive); is = el-mod (start .args .p) _ ∙ ap (el (start .args .p)) (search needs) }
 
 pub denominator-spec : {M : Type 1} → statement M
 denominator-spec =

@@ -3,6 +3,7 @@ use borrow.Author.Needs.{needs}
 use mathlib.Core.Path.{refl, _∙_}
 use native.Mathlib.Omega.{arith}
 use denote.Ref.{now}
+use Rattle.record.specs.Curve.{curve-size}
 use Rattle.record.specs.Fractions.{fractions-stages}
 use Rattle.calls.proofs.Answers.{writes-refused, writes-short}
 use Rattle.reply.proofs.Number.{kept}
@@ -26,7 +27,7 @@ returns c =
     let p = start .args .p in
     let found = c .before .before .before .before .before .reduce in
     let f = found-curve s p (found .result) (found .ensures) _ (c .before .before .before .found .given .1) in
-    writes-short (fractions-stages s p) (f .passes) (c .before .if1 .taken) (kept (c .refusal .result) (c .refusal .ok) ∙ c .refusal .ensures) refl
+    writes-short {least = curve-size} (fractions-stages s p) (f .passes) (omega (arith, c .before .if1 .taken)) (kept (c .refusal .result) (c .refusal .ok) ∙ c .refusal .ensures) refl
 
 slice-aggregate-write-record : tie.Need-slice-aggregate-write-record
 slice-aggregate-write-record c = search needs
