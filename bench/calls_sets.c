@@ -9,9 +9,10 @@
 
 enum { RECORDS = 64, LISTED = 500, PRIMES = 10, MULTIPLES = 8 };
 
-/* A curve with records on it, a list of records and multipliers of 63 bits; the curve with c8 = p. */
+/* A curve with records on it, a list of records and multipliers of 63 bits; the curve with c8 = p; fractions that give
+   the curve modulo p. */
 struct set {
-    uint8_t curve[44], refused[44], rec[RECORDS][40], list[LISTED * 40];
+    uint8_t curve[44], refused[44], fractions[RECORDS][76], rec[RECORDS][40], list[LISTED * 40];
     size_t curve_len, len[RECORDS], list_len;
     int64_t n[MULTIPLES];
 };
@@ -35,12 +36,7 @@ static uint32_t random_below(uint32_t m)
 
 static void write_curve(struct set *s, uint32_t p, const uint32_t c[9])
 {
-    s->curve_len = 44;
-    write_u16(s->curve, 44);
-    write_u16(s->curve + 2, 34);
-    write_u32(s->curve + 4, p);
-    for (int i = 0; i < 9; i++)
-        write_u32(s->curve + 8 + 4 * i, c[i]);
+    s->curve_len = (size_t)answer_curve(p, c, s->curve, 44);
     memcpy(s->refused, s->curve, 44);
     write_u32(s->refused + 40, p);
 }
@@ -103,6 +99,29 @@ static void paper_set(struct set *s)
     write_31(s, 1, d2);
 }
 
+/* Random denominators that p does not divide, and for each the numerator that fits and is next to a random number. */
+static void random_fractions(const struct set *s, uint8_t *b)
+{
+    uint32_t p = read_u32(s->curve + 4), d;
+    write_u16(b, 76);
+    write_u16(b + 2, 36);
+    for (int i = 0; i < 9; i++) {
+        do
+            d = random_below(4294967295);
+        while (d % p == 0);
+        int64_t r = fmul(p, read_u32(s->curve + 8 + 4 * i), d % p);
+        int64_t n = (int64_t)random_below(4294967295) - 2147483648;
+        write_u32(b + 4 + 8 * i, (uint32_t)(r + (n - r) / p * p));
+        write_u32(b + 8 + 8 * i, d);
+    }
+}
+
+static void fill_fractions(struct set *s)
+{
+    for (int i = 0; i < RECORDS; i++)
+        random_fractions(s, s->fractions[i]);
+}
+
 static void make_sets(void)
 {
     random_set(&large, 2147483647);
@@ -112,4 +131,7 @@ static void make_sets(void)
     for (int j = 0; j < PRIMES; j++)
         random_set(&small[j], small_prime[j]);
     paper_set(&paper);
+    fill_fractions(&large);
+    for (int j = 0; j < PRIMES; j++)
+        fill_fractions(&small[j]);
 }

@@ -1,5 +1,5 @@
-/* Times of the nine calls of libc34.a and of the same calls in C, by turns in one run on the same inputs, and ratios. The
-   parts of a call are differences of calls' times.
+/* Times of the ten calls of libc34.a and of the same calls in C, by turns in one run on the same inputs, and ratios.
+   The parts of a call are differences of calls' times.
      calls_times [NS]       prints all tables; NS is Singular's time of a bare sum, left out where it is not known
      calls_times short      prints the tables without the sequences
      calls_times parts      prints the table of the parts
@@ -46,10 +46,26 @@ BOTH(compare, CURVE, RECORD(i), RECORD(i / 2 * 2))
 BOTH(count, CURVE, LIST, 31)
 BOTH(list_sum, CURVE, LIST, out, 40)
 BOTH(multiple, CURVE, RECORD(i), s->n[i % MULTIPLES], out, 40)
+BOTH(reduce_curve, s->fractions[i % RECORDS], 76, read_u32(s->curve + 4), out, 44)
 /* What comes before the test whether the curve is singular. */
 BOTH_AS(refused_curve, check_curve, s->refused, s->curve_len)
 
-enum { CHECK_CURVE, CHECK_DIVISOR, SUM, DOUBLE, NEGATIVE, COMPARE, COUNT_KIND, LIST_SUM, MULTIPLE, REFUSED_CURVE, CALLS };
+enum {
+    CHECK_CURVE,
+    CHECK_DIVISOR,
+    SUM,
+    DOUBLE,
+    NEGATIVE,
+    COMPARE,
+    COUNT_KIND,
+    LIST_SUM,
+    MULTIPLE,
+    REDUCE_CURVE,
+    REFUSED_CURVE,
+    CALLS
+};
+
+enum { OUT = 44 }; /* the longest record that is written */
 
 #define ROW(name) #name, {proved_##name, plain_##name}
 static const struct {
@@ -61,6 +77,7 @@ static const struct {
     {ROW(check_curve), RECORDS, 0}, {ROW(check_divisor), RECORDS, 0}, {ROW(sum), RECORDS, 0},
     {ROW(double), RECORDS, 0},      {ROW(negative), RECORDS, 0},      {ROW(compare), RECORDS, 0},
     {ROW(count), 1, 0},             {ROW(list_sum), 1, 0},            {ROW(multiple), MULTIPLES, 0},
+    {ROW(reduce_curve), RECORDS, 0},
     {"check_curve, refused with 4", {proved_refused_curve, plain_refused_curve}, RECORDS, -4},
 };
 
@@ -81,10 +98,10 @@ static double now(void)
 static void same_answers(int k, const struct set *s)
 {
     for (int i = 0; i < row[k].inputs; i++) {
-        uint8_t out[2][40];
+        uint8_t out[2][OUT];
         memset(out, 170, sizeof out);
         int32_t a = row[k].side[0](s, i, out[0]), b = row[k].side[1](s, i, out[1]);
-        if ((a < 0 && a != row[k].refusal) || a != b || memcmp(out[0], out[1], 40) != 0)
+        if ((a < 0 && a != row[k].refusal) || a != b || memcmp(out[0], out[1], OUT) != 0)
             fail(row[k].name);
     }
 }
@@ -101,7 +118,7 @@ static void timed(const struct set *sets, int count, int rounds, struct times me
             best[k][0] = best[k][1] = 1e18;
         }
         for (int turn = 0; turn < rounds * CALLS * 2; turn++) {
-            uint8_t out[40];
+            uint8_t out[OUT];
             int side = turn % 2, k = turn / 2 % CALLS;
             double start = now();
             for (int i = 0; i < row[k].inputs; i++)
@@ -309,7 +326,7 @@ static void print_calls(void)
 
 /* What follows from the times of the calls. */
 struct parts {
-    struct times singular, check, star, sum;
+    struct times singular, check, star, sum, fractions;
 };
 
 static struct parts parts(const struct times a[CALLS])
@@ -319,6 +336,7 @@ static struct parts parts(const struct times a[CALLS])
     t.check = over(plus(a[COUNT_KIND], -1, a[CHECK_CURVE]), LISTED);
     t.star = plus(a[NEGATIVE], -1, a[CHECK_DIVISOR]);
     t.sum = plus(plus(a[SUM], -1, a[CHECK_CURVE]), -2, t.check);
+    t.fractions = plus(a[REDUCE_CURVE], -1, a[CHECK_CURVE]);
     return t;
 }
 
@@ -338,6 +356,7 @@ static struct times print_parts(void)
               over(plus(b[LIST_SUM], -1, b[COUNT_KIND]), LISTED));
     print_row("multiple, per doubling or addition", over(a[MULTIPLE], operations(&large)),
               over(b[MULTIPLE], mean_operations()));
+    print_row("reduce_curve less check_curve", t.fractions, u.fractions);
     printf("\n"
            "Share of the checks (curve and both divisors) in a sum call: at p = 2147483647 proved %.0f %%, C %.0f %%,\n"
            "below 256 proved %.0f %%, C %.0f %%.\n\n",
@@ -388,7 +407,8 @@ int main(int argc, char **argv)
     timed(small, PRIMES, ROUNDS / 4, at_small);
     printf("C side by %s; ns of CPU time, proved and C by turns, least of %d. Left: p = 2147483647, a random\n"
            "curve, random records of kind 31. Right: mean over the ten primes from 197 to 251, random records.\n"
-           "Lists of %d records, multipliers of 63 bits (%.0f doublings and additions). All answers agree.\n",
+           "Lists of %d records, multipliers of 63 bits (%.0f doublings and additions), fractions of 32-bit numbers\n"
+           "that give the curve modulo p. All answers agree.\n",
            COMPILER, ROUNDS, LISTED, operations(&large));
     if (strcmp(mode, "parts") != 0)
         print_calls();

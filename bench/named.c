@@ -47,3 +47,8 @@ int32_t c34_count(bytes c, size_t nc, bytes list, size_t n, uint32_t kind)
 {
     return base_count(c, nc, list, n, kind);
 }
+
+int32_t c34_reduce_curve(bytes fractions, size_t n, uint32_t p, uint8_t *out, size_t room)
+{
+    return base_reduce_curve(fractions, n, p, out, room);
+}

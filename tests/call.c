@@ -21,7 +21,9 @@ int32_t by_library(const struct call *c)
         return c34_list_sum(k.at, k.len, a.at, a.len, c->out, c->out_len);
     case COMPARE:
         return c34_compare(k.at, k.len, a.at, a.len, b.at, b.len);
-    default:
+    case COUNT:
         return c34_count(k.at, k.len, a.at, a.len, c->kind);
+    default:
+        return c34_reduce_curve(k.at, k.len, c->p, c->out, c->out_len);
     }
 }

@@ -11,7 +11,19 @@
 #include <stddef.h>
 #include <stdint.h>
 
-enum verb { CHECK_CURVE, CHECK_DIVISOR, SUM, DOUBLE, NEGATIVE, MULTIPLE, LIST_SUM, COMPARE, COUNT, VERBS };
+enum verb {
+    CHECK_CURVE,
+    CHECK_DIVISOR,
+    SUM,
+    DOUBLE,
+    NEGATIVE,
+    MULTIPLE,
+    LIST_SUM,
+    COMPARE,
+    COUNT,
+    REDUCE_CURVE,
+    VERBS
+};
 
 struct slice {
     const uint8_t *at;
@@ -20,12 +32,13 @@ struct slice {
 
 struct call {
     enum verb verb;
-    struct slice curve;
-    struct slice a; /* the divisor, the first divisor or the list */
-    struct slice b; /* the second divisor, for SUM and COMPARE */
-    int64_t n;      /* for MULTIPLE */
-    uint32_t kind;  /* for COUNT */
-    uint8_t *out;   /* the result buffer of the verbs that write */
+    struct slice curve; /* for REDUCE_CURVE the fractions */
+    struct slice a;     /* the divisor, the first divisor or the list */
+    struct slice b;     /* the second divisor, for SUM and COMPARE */
+    int64_t n;          /* for MULTIPLE */
+    uint32_t kind;      /* for COUNT */
+    uint32_t p;         /* for REDUCE_CURVE */
+    uint8_t *out;       /* the result buffer of the verbs that write */
     size_t out_len;
 };
 
@@ -34,6 +47,10 @@ extern const char *const verb_name[VERBS];
 int writes(enum verb verb);
 int takes_list(enum verb verb);
 int takes_two(enum verb verb);
+/* How many slices the verb reads: 1 is the curve or the fractions, 2 also a, 3 also b. */
+int slices_read(enum verb verb);
+/* The least result buffer that the verb takes, 0 if it writes nothing. */
+size_t least_buffer(enum verb verb);
 
 int32_t by_library(const struct call *c);
 
@@ -44,7 +61,7 @@ uint32_t get32(const uint8_t *b);
 void put16(uint8_t *b, uint32_t a);
 void put32(uint8_t *b, uint32_t a);
 
-/* How many numbers a record of the kind has, the curve's kind included; -1 for a number that is no kind. */
+/* How many numbers a record of the kind has, curves and fractions included; -1 for a number that is no kind. */
 int numbers_of(uint32_t kind);
 /* Writes the record and returns its length. */
 size_t put_record(uint8_t *b, uint32_t kind, const uint32_t *numbers);

@@ -3,11 +3,12 @@
 #include <stdio.h>
 #include <stdlib.h>
 
-const char *const verb_name[VERBS] = {"curve", "divisor", "sum", "double", "neg", "mul", "lsum", "cmp", "count"};
+const char *const verb_name[VERBS] = {"curve", "divisor", "sum", "double", "neg",
+                                      "mul",   "lsum",    "cmp", "count",  "frac"};
 
 int writes(enum verb verb)
 {
-    return verb == SUM || verb == DOUBLE || verb == NEGATIVE || verb == MULTIPLE || verb == LIST_SUM;
+    return least_buffer(verb) > 0;
 }
 
 int takes_list(enum verb verb)
@@ -18,6 +19,27 @@ int takes_list(enum verb verb)
 int takes_two(enum verb verb)
 {
     return verb == SUM || verb == COMPARE;
+}
+
+int slices_read(enum verb verb)
+{
+    return verb == CHECK_CURVE || verb == REDUCE_CURVE ? 1 : takes_two(verb) ? 3 : 2;
+}
+
+size_t least_buffer(enum verb verb)
+{
+    switch (verb) {
+    case SUM:
+    case DOUBLE:
+    case NEGATIVE:
+    case MULTIPLE:
+    case LIST_SUM:
+        return 40;
+    case REDUCE_CURVE:
+        return 44;
+    default:
+        return 0;
+    }
 }
 
 /* ---- bytes ---- */
@@ -46,7 +68,14 @@ void put32(uint8_t *b, uint32_t a)
 
 int numbers_of(uint32_t kind)
 {
-    return kind == 0 ? 0 : kind == 11 ? 2 : kind == 21 ? 4 : kind == 22 ? 3 : kind == 31 ? 9 : kind == 34 ? 10 : -1;
+    static const struct {
+        uint32_t kind;
+        int numbers;
+    } known[] = {{0, 0}, {11, 2}, {21, 4}, {22, 3}, {31, 9}, {34, 10}, {36, 18}};
+    for (unsigned i = 0; i < sizeof known / sizeof *known; i++)
+        if (known[i].kind == kind)
+            return known[i].numbers;
+    return -1;
 }
 
 size_t put_record(uint8_t *b, uint32_t kind, const uint32_t *numbers)
@@ -101,12 +130,12 @@ static void show_slice(const char *name, struct slice s)
 void show(const struct call *c)
 {
     printf("%s", verb_name[c->verb]);
-    show_slice("curve", c->curve);
-    if (c->verb != CHECK_CURVE)
+    show_slice(c->verb == REDUCE_CURVE ? "fractions" : "curve", c->curve);
+    if (slices_read(c->verb) > 1)
         show_slice("a", c->a);
-    if (takes_two(c->verb))
+    if (slices_read(c->verb) > 2)
         show_slice("b", c->b);
-    printf(" n=%lld kind=%u buffer=%zu\n", (long long)c->n, c->kind, c->out_len);
+    printf(" n=%lld kind=%u p=%u buffer=%zu\n", (long long)c->n, c->kind, c->p, c->out_len);
 }
 
 void require(int condition, const char *what, const struct call *c)

@@ -1,64 +1,24 @@
-/* Bytes that must not be touched: every slice ends at a page that cannot be read or written, or starts after one; what is
-   only read cannot be written. On such slices the library is held against the independent implementation on every
-   truncation and lengthening of curve, records and lists, on wrong length and kind fields, on result buffers of 0 to 60
-   bytes and on empty slices with a null pointer. */
+/* Bytes that must not be touched: every slice ends at a page that cannot be read or written, or starts after one; what
+   is only read cannot be written. On such slices the library is held against the independent implementation on every
+   truncation and lengthening of curve, fractions, records and lists, on wrong length and kind fields, on numbers and
+   moduli at the borders of what is accepted, on result buffers of 0 to 60 bytes and on empty slices with a null
+   pointer. */
+#include "pages.h"
 #include "sample.h"
 #include <stdio.h>
 #include <string.h>
-#include <sys/mman.h>
-#include <unistd.h>
 
-enum { FILL = 0xC3, ROOM = 1 << 16, SLICES = 4, MOST = 40000 };
+enum { MOST = 40000 };
 
-/* ---- slices between guard pages ---- */
-
-static uint8_t *arena[SLICES]; /* curve, a, b, result; ROOM bytes each, a guard page on both sides */
-static int at_front;           /* slices start after a guard page rather than end at one */
 static long calls;
-
-static void protect(int i, int rights)
-{
-    require(mprotect(arena[i], ROOM, rights) == 0, "no protection", NULL);
-}
-
-static void make_arenas(void)
-{
-    size_t page = (size_t)sysconf(_SC_PAGESIZE);
-    for (int i = 0; i < SLICES; i++) {
-        uint8_t *m = mmap(NULL, ROOM + 2 * page, PROT_NONE, MAP_PRIVATE | MAP_ANONYMOUS, -1, 0);
-        require(m != MAP_FAILED, "no memory", NULL);
-        arena[i] = m + page;
-        protect(i, i < 3 ? PROT_READ : PROT_READ | PROT_WRITE);
-    }
-}
-
-/* The bytes in arena i, where they cannot be written. */
-static struct slice lend(int i, struct slice s)
-{
-    uint8_t *to = at_front ? arena[i] : arena[i] + ROOM - s.len;
-    if (s.len > 0 && memcmp(to, s.at, s.len) != 0) {
-        protect(i, PROT_READ | PROT_WRITE);
-        memcpy(to, s.at, s.len);
-        protect(i, PROT_READ);
-    }
-    return (struct slice){to, s.len};
-}
 
 /* ---- one call ---- */
 
 /* Makes the call between guard pages. It returns what it should, writes what it should and changes nothing else. */
-static void check(const struct call *given)
+static void check_at(const struct call *given, enum side side, int32_t expected, const uint8_t *want)
 {
-    static uint8_t want[ROOM];
-    struct call c = *given, d = *given;
-    c.curve = lend(0, given->curve);
-    c.a = lend(1, given->a);
-    c.b = lend(2, given->b);
-    c.out = at_front ? arena[3] : arena[3] + ROOM - c.out_len;
-    d.out = want;
-    memset(c.out, FILL, c.out_len);
-    memset(want, FILL, c.out_len);
-    int32_t expected = by_definition(&d), e = by_library(&c);
+    struct call c = between_pages(given, side);
+    int32_t e = by_library(&c);
     if (e != expected)
         printf("returned %d, by the definition %d\n", (int)e, (int)expected);
     require(e == expected, "the returned number is wrong", given);
@@ -68,11 +28,16 @@ static void check(const struct call *given)
     calls++;
 }
 
-/* On both sides of the arenas. */
-static void check_both(const struct call *c)
+/* On both sides: slices that end at a guard page, and slices that start after one. */
+static void check(const struct call *given)
 {
-    for (at_front = 0; at_front < 2; at_front++)
-        check(c);
+    static uint8_t want[LONGEST];
+    struct call d = *given;
+    d.out = want;
+    memset(want, FILL, d.out_len);
+    int32_t expected = by_definition(&d);
+    check_at(given, AT_END, expected, want);
+    check_at(given, AT_FRONT, expected, want);
 }
 
 /* ---- variations of one slice of a call ---- */
@@ -82,15 +47,11 @@ static struct slice *argument(struct call *c, int i)
     return i == 0 ? &c->curve : i == 1 ? &c->a : &c->b;
 }
 
-static int arguments(enum verb verb)
-{
-    return verb == CHECK_CURVE ? 1 : takes_two(verb) ? 3 : 2;
-}
-
-/* Every shorter slice and some longer ones, with the length field as it was and set to the new length. */
+/* Every shorter slice and some longer ones, with the length field as it was and set to the new length; and 65,536 bytes
+   more, where the field is right but for what it cannot hold. */
 static void vary_length(const struct call *given, int i)
 {
-    static uint8_t b[ROOM];
+    static uint8_t b[LONGEST];
     struct call c = *given;
     struct slice *s = argument(&c, i);
     size_t whole = s->len;
@@ -101,15 +62,21 @@ static void vary_length(const struct call *given, int i)
             if (field == 1 && n >= 2)
                 put16(b, (uint32_t)n);
             *s = (struct slice){b, n};
-            check_both(&c);
+            check(&c);
         }
+    memset(b, 0, whole + 65536);
+    memcpy(b, argument((struct call *)given, i)->at, whole);
+    *s = (struct slice){b, whole + 65536};
+    check(&c);
 }
 
 static void vary_header(const struct call *given, int i)
 {
-    static const uint16_t value[] = {0,  1,  2,  3,  4,  5,  8,  10, 11, 12, 13, 16, 20,  21,  22,   23,   30,
-                                     31, 32, 33, 34, 35, 36, 39, 40, 41, 44, 48, 255, 256, 2816, 5632, 32768, 65535};
-    uint8_t b[64];
+    static const uint16_t value[] = {0,  1,  2,  3,  4,  5,  8,  10,  11,  12,   13,   16,   20,    21,
+                                     22, 23, 30, 31, 32, 33, 34, 35,  36,  37,   39,   40,   41,    44,
+                                     48, 75, 76, 77, 80, 84, 85, 255, 256, 2816, 5632, 9216, 19456, 32768,
+                                     65535};
+    uint8_t b[C34_FRACTIONS_LENGTH];
     struct call c = *given;
     struct slice *s = argument(&c, i);
     for (size_t at = 0; at <= 2 && s->len >= 4 && s->len <= sizeof b; at += 2)
@@ -117,19 +84,19 @@ static void vary_header(const struct call *given, int i)
             memcpy(b, argument((struct call *)given, i)->at, s->len);
             put16(b + at, value[v]);
             *s = (struct slice){b, s->len};
-            check_both(&c);
+            check(&c);
         }
 }
 
 /* Each number in turn at the borders of what is accepted. */
 static void vary_numbers(const struct call *given, int i, uint32_t p)
 {
-    const uint32_t value[] = {0, p - 1, p, p + 1, 0x7FFFFFFF, 0x80000000, 0xFFFFFFFF};
-    uint8_t b[64];
+    const uint32_t value[] = {0, 1, p - 1, p, p + 1, 2 * p, 0x7FFFFFFF, 0x80000000, 0xFFFFFFFF};
+    uint8_t b[C34_FRACTIONS_LENGTH];
     struct call c = *given;
     struct slice *s = argument(&c, i);
     for (size_t at = 4; at + 4 <= s->len && s->len <= sizeof b; at += 4)
-        for (int v = 0; v < 7; v++) {
+        for (size_t v = 0; v < sizeof value / sizeof *value; v++) {
             memcpy(b, argument((struct call *)given, i)->at, s->len);
             put32(b + at, value[v]);
             *s = (struct slice){b, s->len};
@@ -141,21 +108,36 @@ static void vary_buffer(const struct call *given)
 {
     struct call c = *given;
     for (c.out_len = 0; c.out_len <= 60; c.out_len++)
-        check_both(&c);
+        check(&c);
     c.out_len = 4096;
-    check_both(&c);
+    check(&c);
+}
+
+/* The modulus beside the record at the borders of what is accepted, also with a buffer that is too short. */
+static void vary_modulus(const struct call *given)
+{
+    static const uint32_t value[] = {0,          1,          2,          3,          4,         5,
+                                     2147483647, 2147483648, 2147483659, 4294967291, 4294967295};
+    struct call c = *given;
+    for (size_t v = 0; v < sizeof value / sizeof *value; v++)
+        for (c.out_len = C34_CURVE_LENGTH - 1; c.out_len <= C34_CURVE_LENGTH; c.out_len++) {
+            c.p = value[v];
+            check(&c);
+        }
 }
 
 static void vary(const struct call *c, uint32_t p)
 {
-    check_both(c);
-    for (int i = 0; i < arguments(c->verb); i++) {
+    check(c);
+    for (int i = 0; i < slices_read(c->verb); i++) {
         vary_length(c, i);
         vary_header(c, i);
         vary_numbers(c, i, p);
     }
     if (writes(c->verb))
         vary_buffer(c);
+    if (c->verb == REDUCE_CURVE)
+        vary_modulus(c);
 }
 
 /* ---- the calls ---- */
@@ -189,22 +171,47 @@ static size_t make_list(const struct sample *s, uint8_t *list)
 static void run_sample(const struct sample *s)
 {
     static const uint32_t kinds[5] = {0, 11, 21, 22, 31};
-    static uint8_t list[6 * C34_BUFFER];
+    static uint8_t list[6 * C34_BUFFER], fractions[C34_FRACTIONS_LENGTH];
     struct slice all = {list, make_list(s, list)};
     for (int v = 0; v < VERBS; v++)
         for (int i = 0; i < (v == CHECK_CURVE || takes_list((enum verb)v) ? 1 : 5); i++) {
-            struct call c = {.verb = (enum verb)v, .curve = slice_of_curve(s), .n = -3, .kind = kinds[4]};
+            struct call c = {.verb = (enum verb)v, .curve = slice_of_curve(s), .n = -3, .kind = kinds[4], .p = s->k.p};
+            if (c.verb == REDUCE_CURVE)
+                c.curve = (struct slice){fractions, put_fractions(s, fractions)};
             c.a = takes_list(c.verb) ? all : slice_of_record(of_kind(s, kinds[i]));
             c.b = slice_of_record(of_kind(s, kinds[4 - i]));
-            c.out_len = writes(c.verb) ? C34_BUFFER : 0;
+            c.out_len = least_buffer(c.verb);
             vary(&c, s->k.p);
         }
 }
 
-/* Every value of the length and of the kind field of a record and of a curve. */
+/* Fractions with every set of causes for a refusal: the first in order decides. */
+static void run_causes(const struct sample *s)
+{
+    uint8_t b[C34_FRACTIONS_LENGTH];
+    for (unsigned causes = 0; causes < 32; causes++)
+        for (size_t place = 4; place < sizeof b; place += 8) {
+            struct call c = {.verb = REDUCE_CURVE, .p = s->k.p, .out_len = C34_CURVE_LENGTH};
+            c.curve = (struct slice){b, put_fractions(s, b)};
+            if (causes & 1)
+                put16(b + 2, C34_CURVE);
+            if (causes & 2)
+                c.p = 4 * c.p;
+            if (causes & 4)
+                put32(b + place + 4, random_below(2) * s->k.p);
+            for (size_t i = 4; (causes & 8) && i < sizeof b; i += 8)
+                put32(b + i, 0); /* y^3 + x^4 is singular */
+            if (causes & 16)
+                c.out_len = random_below(C34_CURVE_LENGTH);
+            check(&c);
+        }
+}
+
+/* Every value of the length and of the kind field of a record, of a curve and of fractions. */
 static void run_headers(const struct sample *s)
 {
-    uint8_t b[C34_CURVE_LENGTH];
+    uint8_t b[C34_FRACTIONS_LENGTH], fractions[C34_FRACTIONS_LENGTH];
+    put_fractions(s, fractions);
     for (uint32_t v = 0; v < 65536; v++)
         for (size_t at = 0; at <= 2; at += 2) {
             struct call c = {.verb = CHECK_DIVISOR, .curve = slice_of_curve(s)};
@@ -214,7 +221,11 @@ static void run_headers(const struct sample *s)
             c.a = (struct slice){b, r->len};
             check(&c);
             c = (struct call){.verb = CHECK_CURVE, .curve = {b, C34_CURVE_LENGTH}};
-            memcpy(b, s->curve, sizeof b);
+            memcpy(b, s->curve, C34_CURVE_LENGTH);
+            put16(b + at, v);
+            check(&c);
+            c = (struct call){.verb = REDUCE_CURVE, .curve = {b, sizeof b}, .p = s->k.p, .out_len = C34_CURVE_LENGTH};
+            memcpy(b, fractions, sizeof b);
             put16(b + at, v);
             check(&c);
         }
@@ -259,16 +270,24 @@ static void run_compare(void)
 /* A null pointer with length 0 is an empty slice; so is, for the archive itself, a pointer behind the last byte. */
 static void run_null(const struct sample *s)
 {
-    uint8_t out[C34_BUFFER];
+    uint8_t out[C34_CURVE_LENGTH], f[C34_FRACTIONS_LENGTH];
     const uint8_t *k = s->curve, *a = s->record[0].b;
-    size_t kl = C34_CURVE_LENGTH, al = s->record[0].len;
+    size_t kl = C34_CURVE_LENGTH, al = s->record[0].len, fl = put_fractions(s, f);
+    uint32_t p = s->k.p;
     require(c34_check_curve(NULL, 0) == -1 && c34_check_divisor(NULL, 0, a, al) == -1, "null curve", NULL);
     require(c34_check_divisor(k, kl, NULL, 0) == -6 && c34_compare(k, kl, a, al, NULL, 0) == -6, "null divisor", NULL);
-    require(c34_sum(k, kl, NULL, 0, a, al, out, 40) == -6 && c34_sum(k, kl, a, al, NULL, 0, out, 40) == -6, "null sum", NULL);
-    require(c34_sum(k, kl, a, al, a, al, NULL, 0) == -10 && c34_double(k, kl, a, al, NULL, 0) == -10, "null result", NULL);
-    require(c34_negative(k, kl, a, al, NULL, 0) == -10 && c34_multiple(k, kl, a, al, 2, NULL, 0) == -10, "null result", NULL);
+    require(c34_sum(k, kl, NULL, 0, a, al, out, 40) == -6, "null first divisor", NULL);
+    require(c34_sum(k, kl, a, al, NULL, 0, out, 40) == -6, "null second divisor", NULL);
+    require(c34_sum(k, kl, a, al, a, al, NULL, 0) == -10, "null result of a sum", NULL);
+    require(c34_double(k, kl, a, al, NULL, 0) == -10, "null result of a double", NULL);
+    require(c34_negative(k, kl, a, al, NULL, 0) == -10, "null result of a negative", NULL);
+    require(c34_multiple(k, kl, a, al, 2, NULL, 0) == -10, "null result of a multiple", NULL);
     require(c34_list_sum(k, kl, NULL, 0, out, 40) == 4 && c34_count(k, kl, NULL, 0, 0) == 0, "null list", NULL);
     require((c34_list_sum)(k, kl, k + kl, 0, out, 40) == 4, "empty list behind the last byte", NULL);
+    require(c34_reduce_curve(NULL, 0, p, out, 44) == -12, "null fractions", NULL);
+    require(c34_reduce_curve(NULL, 0, 4, NULL, 0) == -12, "null fractions and a null result", NULL);
+    require(c34_reduce_curve(f, fl, p, NULL, 0) == -10, "null result of fractions", NULL);
+    require((c34_reduce_curve)(f + fl, 0, p, out, 44) == -12, "empty fractions behind the last byte", NULL);
 }
 
 int main(void)
@@ -276,12 +295,13 @@ int main(void)
     static const uint32_t primes[] = {2, 5, 101, 2147483647};
     static struct sample s;
     seed(34);
-    make_arenas();
+    make_pages();
     for (int i = 0; i < 4; i++) {
         do
             make_sample(&s, primes[i], RECORDS);
         while (!has_all_kinds(&s));
         run_sample(&s);
+        run_causes(&s);
         run_lists(&s);
         run_null(&s);
         if (primes[i] == 5)

@@ -8,6 +8,8 @@ int main()
     const uint8_t none[1] = {0};
     if (c34_check_curve(nullptr, 0) != -C34_REFUSED_CURVE_LENGTH || check(none, 0) != -C34_REFUSED_CURVE_LENGTH)
         return 1;
+    if (c34_reduce_curve(nullptr, 0, 5, nullptr, 0) != -C34_REFUSED_FRACTIONS)
+        return 1;
     std::puts("header: usable from C++");
     return 0;
 }

@@ -1,9 +1,10 @@
-/* Document 01 once more, written from its definitions with naive linear algebra and from nothing else: what the library
-   is tested against. It shares no algorithm with the library.
+/* The calls once more, written from the definitions of documents 01 and 02 with naive arithmetic and linear algebra and
+   from nothing else: what the library is tested against. It shares no algorithm with the library.
 
    curve           the modulus and the coefficients
    element         of the ring, as a vector by pole number: place 3i + 4j holds the coefficient of x^i y^j, j at most 2
-   ideal           nonzero, as generators: for each residue modulo 3 a monic element of least pole number with that residue
+   ideal           nonzero, as generators: for each residue modulo 3 a monic element of least pole number with that
+                   residue
    nonsingular     1 if the curve is
    is_basis        1 if a record is one
    ideal_of        the ideal that a record's polynomials generate

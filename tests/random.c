@@ -5,14 +5,15 @@
 #include <stdlib.h>
 #include <string.h>
 
-enum { SAMPLES = 40, LIST_ROOM = 4096, OUT_ROOM = 128, FILL = 0x5A };
+enum { SAMPLES = 40, LIST_ROOM = 4096, OUT_ROOM = 128, FILL = 0x5A, REFUSALS = 13 };
 
-static const uint32_t primes[] = {2, 2, 2, 3, 3, 3, 5, 5, 7, 11, 13, 101, 251, 1009, 65521, 268435399, 2147483629, 2147483647};
+static const uint32_t primes[] = {2,  2,  2,   3,   3,    3,     5,         5,          7,
+                                  11, 13, 101, 251, 1009, 65521, 268435399, 2147483629, 2147483647};
 
 static struct sample sample[SAMPLES];
-static uint8_t given[3][LIST_ROOM + 64]; /* the bytes of curve, a and b */
+static uint8_t given[3][LIST_ROOM + 64]; /* the bytes of curve, or fractions, of a and of b */
 static struct call c;
-static long refused[12], accepted[VERBS], made;
+static long refused[REFUSALS + 1], accepted[VERBS], made;
 
 /* ---- an accepted call ---- */
 
@@ -59,10 +60,13 @@ static void make_call(const struct sample *s)
     lend(2, slice_of_record(&b), &c.b);
     if (takes_list(c.verb))
         lend_list(s);
+    if (c.verb == REDUCE_CURVE)
+        c.curve = (struct slice){given[0], put_fractions(s, given[0])};
     c.n = random_multiplier();
     c.kind = random_below(4) == 0 ? random32() : get16(pick(s)->b + 2);
+    c.p = s->k.p;
     c.out = out;
-    c.out_len = writes(c.verb) ? (random_below(10) == 0 ? random_below(64) : 40) : 0;
+    c.out_len = writes(c.verb) && random_below(10) == 0 ? random_below(64) : least_buffer(c.verb);
 }
 
 /* ---- comparing ---- */
@@ -91,14 +95,14 @@ static void compare(int32_t e)
 
 static void mutate_number(uint8_t *b, uint32_t p)
 {
-    const uint32_t value[] = {0, 1, p - 1, p, p + 1, 0x7FFFFFFF, 0x80000000, 0xFFFFFFFF, random32()};
-    put32(b, random_below(2) == 0 ? random_below(p) : value[random_below(9)]);
+    const uint32_t value[] = {0, 1, p - 1, p, p + 1, 2 * p, 0x7FFFFFFF, 0x80000000, 0xFFFFFFFF, random32()};
+    put32(b, random_below(2) == 0 ? random_below(p) : value[random_below(10)]);
 }
 
 static void mutate_header(uint8_t *b)
 {
-    static const uint16_t value[] = {0, 1, 3, 4, 11, 12, 16, 20, 21, 22, 31, 34, 40, 44, 256, 65535};
-    put16(b + 2 * random_below(2), random_below(4) == 0 ? random_below(65536) : value[random_below(16)]);
+    static const uint16_t value[] = {0, 1, 3, 4, 11, 12, 16, 20, 21, 22, 31, 34, 36, 40, 44, 76, 256, 65535};
+    put16(b + 2 * random_below(2), random_below(4) == 0 ? random_below(65536) : value[random_below(18)]);
 }
 
 /* Changes, shortens or lengthens the bytes; numbers are taken at multiples of four. */
@@ -139,10 +143,48 @@ static void random_record(struct slice *s, uint8_t *b, uint32_t p)
     s->len = put_record(b, kind, numbers);
 }
 
+/* Large and small numerators of either sign and denominators, one in 100 a multiple of p: the curve may be singular. */
+static void random_fractions(struct slice *s, uint8_t *b, uint32_t p)
+{
+    uint32_t numbers[18];
+    for (int i = 0; i < 18; i += 2) {
+        const uint32_t value[] = {0, p, 0 - p, 0x7FFFFFFF, 0x80000000, random_below(19) - 9, random32(), random32()};
+        numbers[i] = value[random_below(8)];
+        numbers[i + 1] = random_below(100) == 0 ? random32() / p * p : random_denominator(p);
+    }
+    s->len = put_record(b, C34_FRACTIONS, numbers);
+}
+
+/* Mostly no prime, or above the largest that is accepted. */
+static uint32_t random_modulus(void)
+{
+    static const uint32_t value[] = {0,          1,          4,          9,          15,         35,        2147210243,
+                                     2147483646, 2147483648, 2147483659, 4294967291, 4294967295, 2147483629};
+    return random_below(4) == 0 ? random32() : value[random_below(13)];
+}
+
+static void mutate_fractions(const struct sample *s)
+{
+    switch (random_below(16)) {
+    case 0:
+        c.p = random_modulus();
+        return;
+    case 1:
+    case 2:
+    case 3:
+        mutate(&c.curve, given[0], s->k.p);
+        return;
+    default:
+        random_fractions(&c.curve, given[0], s->k.p);
+    }
+}
+
 static void mutate_call(const struct sample *s)
 {
     uint32_t which = random_below(20);
-    if (which == 0)
+    if (c.verb == REDUCE_CURVE)
+        mutate_fractions(s);
+    else if (which == 0)
         mutate(&c.curve, given[0], s->k.p);
     else if (which < 5 && takes_two(c.verb))
         mutate(&c.b, given[2], s->k.p);
@@ -161,7 +203,7 @@ static const struct sample *random_sample(void)
     return &sample[random_below(SAMPLES)];
 }
 
-/* Of the mutated calls that are still accepted and write, which take long, one in 64 is made. */
+/* Of the mutated calls that are still accepted and write a divisor, which take long, one in 64 is made. */
 static void run_mutated(void)
 {
     const struct sample *s = random_sample();
@@ -169,7 +211,7 @@ static void run_mutated(void)
         make_call(s);
         mutate_call(s);
         int32_t e = refusal_of(&c);
-        if (e != 0 || !writes(c.verb) || random_below(64) == 0)
+        if (e != 0 || !writes(c.verb) || c.verb == REDUCE_CURVE || random_below(64) == 0)
             compare(e);
     }
 }
@@ -190,11 +232,11 @@ int main(int argc, char **argv)
     made = 0;
     while (made < mutated)
         run_mutated();
-    printf("random: %ld mutated calls agree; refused by number 1 to 11:", made);
-    for (int e = 1; e <= 11; e++)
+    printf("random: %ld mutated calls agree; refused by number 1 to %d:", made, REFUSALS);
+    for (int e = 1; e <= REFUSALS; e++)
         printf(" %ld", refused[e]);
     printf("\n");
-    for (int e = 1; e <= 10; e++)
-        require(refused[e] > 0, "a refusal was never met", NULL);
+    for (int e = 1; e <= REFUSALS; e++)
+        require(refused[e] > 0 || e == C34_REFUSED_LIST_LIMIT, "a refusal was never met", NULL);
     return 0;
 }

@@ -184,6 +184,35 @@ void pick_pair(const struct sample *s, struct record *a, struct record *b)
     *b = i < PAIRS ? s->pair[i][1] : *pick(s);
 }
 
+/* ---- fractions ---- */
+
+uint32_t random_denominator(uint32_t p)
+{
+    uint32_t d;
+    do
+        d = random_below(2) == 0 ? random32() : 1 + random_below(9);
+    while (d % p == 0);
+    return d;
+}
+
+/* A number with residue r modulo p that lies between r and a random number, large or small, which may be negative. */
+static uint32_t random_numerator(uint32_t p, uint32_t r)
+{
+    int64_t to = random_below(2) == 0 ? (int64_t)random32() - 2147483648 : (int64_t)random_below(19) - 9;
+    return (uint32_t)(r + (to - r) / p * p);
+}
+
+size_t put_fractions(const struct sample *s, uint8_t *record)
+{
+    uint32_t numbers[18];
+    for (int i = 0; i < 9; i++) {
+        uint32_t d = random_denominator(s->k.p);
+        numbers[2 * i] = random_numerator(s->k.p, times(s->k.p, s->k.c[i], d % s->k.p));
+        numbers[2 * i + 1] = d;
+    }
+    return put_record(record, C34_FRACTIONS, numbers);
+}
+
 /* ---- samples ---- */
 
 static void set_curve(struct sample *s, const struct curve *k)

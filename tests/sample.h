@@ -3,7 +3,8 @@
    sample        a nonsingular curve with some points and accepted records on it
    make_sample   a random one
    pick          a record of the sample
-   pick_pair     two records of the sample, one time in three a degenerate pair */
+   pick_pair     two records of the sample, one time in three a degenerate pair
+   put_fractions fractions that give the sample's curve modulo its p */
 #ifndef SAMPLE_H
 #define SAMPLE_H
 #include "independent.h"
@@ -35,5 +36,10 @@ const struct record *pick(const struct sample *s);
 struct record sum_of(const struct sample *s, const struct record *a, const struct record *b);
 struct record negative_of(const struct sample *s, const struct record *a);
 void pick_pair(const struct sample *s, struct record *a, struct record *b);
+
+/* A random denominator that p does not divide, large or small. */
+uint32_t random_denominator(uint32_t p);
+/* Random ones, with large and small numbers; the record's length is returned. */
+size_t put_fractions(const struct sample *s, uint8_t *record);
 
 #endif

@@ -1,21 +1,24 @@
-/* Makes the calls of a file of test vectors and compares: vectors FILE [PROGRAM]. The head of vectors.txt says how a line
-   reads. PROGRAM is the counting program; without it the lines of verb prog are left out. Two verbs are no calls, but
-   made of some, for the papers' examples:
+/* Makes the calls of a file of test vectors and compares: vectors FILE [PROGRAM]. The head of vectors.txt says how a
+   line reads. Every call is made between guard pages: each slice, the result buffer included, ends at a page that
+   cannot be touched. PROGRAM is the counting program; without it the lines of verb prog are left out. Two verbs are no
+   calls, but made of some, for the papers' examples:
 
      negsum C LIST L   the negative of the list sum
-     lcm C A B G L     A + B - G, the class of the least common multiple of A and B if G is their greatest common divisor */
-#include "call.h"
+     lcm C A B G L     A + B - G, the class of the least common multiple of A and B if G is their greatest common
+                       divisor */
+#include "pages.h"
 #include <stdio.h>
 #include <stdlib.h>
 #include <string.h>
 #include <sys/wait.h>
 #include <unistd.h>
 
-enum { ROOM = 1 << 18, FILL = 0xA5, WORDS = 8, AFTER = 16 };
+enum { ROOM = 1 << 18, WORDS = 8, NUMBERS = 18 };
 
 static char argument[WORDS][ROOM]; /* the arguments of this line, for the next one's dittos */
-static uint8_t bytes[WORDS][ROOM], want[ROOM], out[ROOM];
+static uint8_t bytes[WORDS][ROOM], want[ROOM];
 static size_t length[WORDS];
+static char output[ROOM]; /* of the counting program */
 
 /* ---- reading ---- */
 
@@ -27,7 +30,7 @@ static unsigned digit(char c)
 /* The bytes of one part without its repetition; w is the length of its text. */
 static size_t part(const char *s, size_t w, uint8_t *to)
 {
-    uint32_t numbers[10] = {0};
+    uint32_t numbers[NUMBERS] = {0};
     size_t n = 0;
     if (*s == 'x') {
         for (size_t i = 1; i + 1 < w; i += 2)
@@ -36,8 +39,8 @@ static size_t part(const char *s, size_t w, uint8_t *to)
     }
     char *end;
     uint32_t kind = (uint32_t)strtoul(s, &end, 10);
-    while (end + 1 < s + w && n < 10)
-        numbers[n++] = (uint32_t)strtoul(end + 1, &end, 10);
+    while (end + 1 < s + w && n < NUMBERS)
+        numbers[n++] = (uint32_t)strtoll(end + 1, &end, 10);
     require(numbers_of(kind) == (int)n, "a record of the file has the wrong number of numbers", NULL);
     return put_record(to, kind, numbers);
 }
@@ -72,81 +75,96 @@ static struct slice slice_of(int i)
 
 /* ---- the calls ---- */
 
-/* The record written to `out` added to argument i, or its negative: the second half of a verb that is no call. */
-static int32_t then(struct call *c, enum verb verb, uint8_t *record, int32_t len)
+/* Makes the call between guard pages; c->out is then its result buffer. */
+static int32_t made(struct call *c, enum verb verb)
 {
-    static uint8_t first[C34_BUFFER];
-    if (len < 0)
-        return len;
-    memcpy(first, record, (size_t)len);
-    memset(c->out, FILL, c->out_len);
     c->verb = verb;
-    c->a = (struct slice){first, (size_t)len};
+    *c = between_pages(c, AT_END);
     return by_library(c);
+}
+
+/* The record of n bytes that stands in the result buffer; no bytes for a refusal. */
+static struct slice written(const struct call *c, int32_t n)
+{
+    require(n <= C34_BUFFER && n <= (int32_t)c->out_len, "a call returns a number that is no record's length", c);
+    return (struct slice){c->out, n < 0 ? 0 : (size_t)n};
 }
 
 static int32_t lcm(struct call *c)
 {
     static uint8_t minus_g[C34_BUFFER];
-    int32_t n = c34_negative(c->curve.at, c->curve.len, bytes[3], length[3], minus_g, sizeof minus_g);
-    c->verb = SUM;
-    int32_t m = by_library(c);
-    c->b = (struct slice){minus_g, n < 0 ? 0 : (size_t)n};
-    return then(c, SUM, c->out, m);
+    struct call g = *c;
+    g.a = slice_of(3);
+    struct slice r = written(&g, made(&g, NEGATIVE));
+    memcpy(minus_g, r.at, r.len);
+    int32_t n = made(c, SUM);
+    c->a = written(c, n);
+    c->b = (struct slice){minus_g, r.len};
+    return n < 0 ? n : made(c, SUM);
 }
 
 static int32_t negsum(struct call *c)
 {
-    c->verb = LIST_SUM;
-    return then(c, NEGATIVE, c->out, by_library(c));
+    int32_t n = made(c, LIST_SUM);
+    c->a = written(c, n);
+    return n < 0 ? n : made(c, NEGATIVE);
 }
 
-static int slices_of(const char *verb)
+/* The verb of this name, VERBS if it is no call. */
+static enum verb verb_of(const char *name)
 {
-    if (strcmp(verb, "curve") == 0 || strcmp(verb, "prog") == 0)
-        return 1;
-    return strcmp(verb, "lcm") == 0 ? 4 : strcmp(verb, "sum") == 0 || strcmp(verb, "cmp") == 0 ? 3 : 2;
+    int v = 0;
+    while (v < VERBS && strcmp(verb_name[v], name) != 0)
+        v++;
+    return (enum verb)v;
 }
 
-/* The call of a line with `count` arguments. */
+static int slices_of(const char *name)
+{
+    enum verb verb = verb_of(name);
+    return verb < VERBS ? slices_read(verb) : strcmp(name, "prog") == 0 ? 1 : strcmp(name, "lcm") == 0 ? 4 : 2;
+}
+
+/* The call of a line with `count` arguments: slices, then a number if there is one, then the length of the buffer. */
 static int32_t make(const char *name, int count, struct call *c)
 {
-    int slices = slices_of(name);
-    memset(c, 0, sizeof *c);
-    while (c->verb < VERBS && strcmp(verb_name[c->verb], name) != 0)
-        c->verb++;
-    c->curve = slice_of(0);
-    c->a = slice_of(1);
-    c->b = slice_of(2);
-    if (c->verb == MULTIPLE)
-        c->n = strtoll(argument[2], NULL, 10);
-    if (c->verb == COUNT)
-        c->kind = (uint32_t)strtoul(argument[2], NULL, 10);
-    if (c->verb == VERBS || writes(c->verb))
+    enum verb verb = verb_of(name);
+    int slices = slices_of(name), numbers = verb == MULTIPLE || verb == COUNT || verb == REDUCE_CURVE;
+    int buffer = verb == VERBS || writes(verb);
+    require(count == slices + numbers + buffer, "a line has too few or too many arguments", NULL);
+    *c = (struct call){.curve = slice_of(0)};
+    if (slices > 1)
+        c->a = slice_of(1);
+    if (slices > 2)
+        c->b = slice_of(2);
+    if (verb == MULTIPLE)
+        c->n = strtoll(argument[slices], NULL, 10);
+    if (verb == COUNT)
+        c->kind = (uint32_t)strtoul(argument[slices], NULL, 10);
+    if (verb == REDUCE_CURVE)
+        c->p = (uint32_t)strtoul(argument[slices], NULL, 10);
+    if (buffer)
         c->out_len = strtoul(argument[count - 1], NULL, 10);
-    require(slices < count + (c->out_len == 0) && c->out_len + AFTER <= ROOM, "a line lacks an argument", NULL);
-    c->out = out;
-    memset(out, FILL, c->out_len + AFTER);
-    if (c->verb < VERBS)
-        return by_library(c);
+    if (verb < VERBS)
+        return made(c, verb);
     require(strcmp(name, "lcm") == 0 || strcmp(name, "negsum") == 0, "a line has an unknown verb", NULL);
     return strcmp(name, "lcm") == 0 ? lcm(c) : negsum(c);
 }
 
 /* The buffer holds the n wanted bytes and is as it was after them. */
-static int buffer_is(size_t out_len, size_t n)
+static int buffer_is(const struct call *c, size_t n)
 {
-    if (n > out_len || memcmp(out, want, n) != 0)
+    if (n > c->out_len || memcmp(c->out, want, n) != 0)
         return 0;
-    for (size_t i = n; i < out_len + AFTER; i++)
-        if (out[i] != FILL)
+    for (size_t i = n; i < c->out_len; i++)
+        if (c->out[i] != FILL)
             return 0;
     return 1;
 }
 
 /* ---- the counting program ---- */
 
-/* Runs it on n bytes of standard input; its output ends up in `out`, as text. */
+/* Runs it on n bytes of standard input; its output ends up in `output`. */
 static void run_program(const char *program, const uint8_t *in, size_t n)
 {
     int from[2];
@@ -165,9 +183,9 @@ static void run_program(const char *program, const uint8_t *in, size_t n)
     }
     close(from[1]);
     size_t m = 0;
-    for (ssize_t r; (r = read(from[0], out + m, ROOM - 1 - m)) > 0;)
+    for (ssize_t r; (r = read(from[0], output + m, ROOM - 1 - m)) > 0;)
         m += (size_t)r;
-    out[m] = 0;
+    output[m] = 0;
     close(from[0]);
     fclose(input);
     int status = 0;
@@ -178,7 +196,7 @@ static void run_program(const char *program, const uint8_t *in, size_t n)
 /* `text` with ' / ' for each end of a line but the last. */
 static int output_is(const char *text)
 {
-    const char *o = (const char *)out;
+    const char *o = output;
     for (; *text != 0; o++) {
         if (strncmp(text, " / ", 3) == 0) {
             text += 2;
@@ -221,8 +239,8 @@ static int line(char *text, const char *program)
         return output_is(answer);
     }
     int32_t e = make(text, count, &c);
-    char *written = strchr(answer, ' ');
-    return e == strtol(answer, NULL, 10) && buffer_is(c.out_len, written == NULL ? 0 : read_bytes(written + 1, want));
+    char *record = strchr(answer, ' ');
+    return e == strtol(answer, NULL, 10) && buffer_is(&c, record == NULL ? 0 : read_bytes(record + 1, want));
 }
 
 int main(int argc, char **argv)
@@ -231,6 +249,7 @@ int main(int argc, char **argv)
     int good = 0, omitted = 0, number = 0;
     FILE *f = argc > 1 ? fopen(argv[1], "r") : NULL;
     require(f != NULL, "usage: vectors FILE [PROGRAM]", NULL);
+    make_pages();
     while (fgets(text, ROOM, f) != NULL) {
         number++;
         text[strcspn(text, "\n")] = 0;
