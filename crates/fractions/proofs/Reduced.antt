@@ -1,9 +1,8 @@
--- The equation by value of the reduced curve, and its record.
---   equation-from p c          the equation with the nine coefficients c
+-- The equation by value e of the reduced curve, which has the quotients c, and its record.
 --   nonsingular-asked          it may be tested
 --   reduced-accepted           a nonsingular curve is accepted
 --   reduced-singular           a singular curve leaves no reduced curve that is accepted
-use mathlib.Core.Path.{_≡_, refl, sym, subst}
+use mathlib.Core.Path.{_≡_, refl, sym, _∙_, subst}
 use mathlib.Core.List.{List, _∷_}
 use Prim.Native.Nat.{ℕ, _<_, _≤_}
 use native.Mathlib.Omega.{arith}
@@ -22,30 +21,11 @@ use Rattle.checks.specs.Contract.{equation-numbers, equation-value}
 use Rattle.checks.proofs.Answer.{nine}
 use Rattle.reader.specs.Contract.{NonsingularAsked}
 use Rattle.reader.proofs.CurveReader.{curve-value}
-use Rattle.fractions.specs.Contract.{Quotients, ReducedTo}
+use Rattle.fractions.specs.Contract.{Quotients, equation-from, ReducedTo}
 
-abbrev pub equation-from : ℕ → List ℕ → Equation
-equation-from p c =
-    record {
-      p = p;
-      a0 = 1;
-      c0 = getD c 0 0;
-      c1 = getD c 1 0;
-      c2 = getD c 2 0;
-      c3 = getD c 3 0;
-      c4 = getD c 4 0;
-      c5 = getD c 5 0;
-      c6 = getD c 6 0;
-      c7 = getD c 7 0;
-      c8 = getD c 8 0;
-    }
-
-module _ (s : List ℕ) (p : ℕ) (prime : Prime p) (few : p ≤ limit) (c : List ℕ) (q : Quotients s p c) where
-  abbrev e : Equation
-  e = equation-from p c
-
+module _ (s : List ℕ) (p : ℕ) (prime : Prime p) (few : p ≤ limit) (c : List ℕ) (q : Quotients s p c) (e : Equation) (is : e ≡ equation-from p c) where
   abbrev cs : List ℕ
-  cs = equation-numbers e
+  cs = equation-numbers (equation-from p c)
 
   abbrev w : List ℕ
   w = record-bytes curve-kind (p ∷ cs)
@@ -64,8 +44,8 @@ module _ (s : List ℕ) (p : ℕ) (prime : Prime p) (few : p ≤ limit) (c : Lis
   reduced : ReducedCurve s p w
   reduced = record { cs = cs; nine = refl; each = quotient; bytes = refl }
 
-  value : equation-value w ≡ e
-  value i =
+  from : equation-value w ≡ equation-from p c
+  from i =
       record {
         p = written-modulus p cs refl words i;
         a0 = 1;
@@ -80,11 +60,15 @@ module _ (s : List ℕ) (p : ℕ) (prime : Prime p) (few : p ≤ limit) (c : Lis
         c8 = written-coefficient p cs refl words 8 (omega arith) i;
       }
 
+  value : equation-value w ≡ e
+  value = from ∙ sym is
+
   pub nonsingular-asked : NonsingularAsked e
-  nonsingular-asked = record { one = refl; prime = prime; below = below }
+  nonsingular-asked = subst NonsingularAsked (sym is) (record { one = refl; prime = prime; below = below })
 
   pub reduced-accepted : FractionsForm s → DenominatorsPass s p → Nonsingular (curve-of e) → ReducedTo s p e
-  reduced-accepted form pass h = record { passes = (form, ((prime, few), (pass, ((w, good), tt)))); modulus = refl; accepted = good }
+  reduced-accepted form pass h =
+      subst (ReducedTo s p) (sym is) (record { passes = (form, ((prime, few), (pass, ((w, good), tt)))); modulus = refl; accepted = good })
     where
       smooth : Nonsingular (equation w)
       smooth = subst (λ (C : Curve (Z (modulus w))). Nonsingular C) (curve-value w) (subst (λ (x : Equation). Nonsingular (curve-of x)) (sym value) h)

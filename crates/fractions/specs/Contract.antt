@@ -1,10 +1,13 @@
 -- What the functions on records of fractions require and ensure.
 --   FractionAsked s i p    s has the length of a record of fractions, i is the place of a coefficient, p is not 0
---   ProductsAsked s p      s has that length, and p is above 1
---   product-before p s i   the product of the denominators before that of ci, in Z p
---   Products p s r         r holds these products; the last is that of all nine
---   QuotientsAsked s p r   … and the last is not 0, p a prime
+--   ResiduesAsked s p      s has that length, and p is not 0
+--   Residues s p d         d holds the nine denominators modulo p
+--   ProductsAsked p d      p is above 1, and the numbers of d are below it
+--   product-before p d i   the product of the numbers of d before place i, in Z p
+--   Products p d r         r holds these products; the last is that of all nine
+--   QuotientsAsked s p d r d holds the denominators and r the products, the last of them not 0; p is a prime
 --   Quotients s p cs       cs are the nine quotients modulo p
+--   equation-from p c      the equation with the nine coefficients c
 --   ReducedTo s p e        e is the equation of the reduced curve, and what is checked is passed
 --   ReduceFound s p a      reduce: the equation of the reduced curve, or the number of the first cause
 use mathlib.Core.Path.{_≡_}
@@ -29,27 +32,52 @@ pub record FractionAsked (s : List ℕ) (i p : ℕ) : Type 0 where
   pub place : i < 9
   pub positive : 0 < p
 
-pub record ProductsAsked (s : List ℕ) (p : ℕ) : Type 0 where
+pub record ResiduesAsked (s : List ℕ) (p : ℕ) : Type 0 where
   pub long : length s ≡ fractions-size
+  pub positive : 0 < p
+
+pub record Residues (s : List ℕ) (p : ℕ) (d : List ℕ) : Type 0 where
+  pub nine : length d ≡ 9
+  pub each : (i : ℕ) → i < 9 → Is p (getD d i 0) (el p (denominator s i))
+
+pub record ProductsAsked (p : ℕ) (d : List ℕ) : Type 0 where
   pub large : 1 < p
+  pub below : (i : ℕ) → i < 9 → getD d i 0 < p
 
-unfoldable pub product-before : (p : ℕ) (s : List ℕ) → ℕ → Z p .Car
-product-before p s zero = Z p .one
-product-before p s (suc i) = Z p .mul (product-before p s i) (el p (denominator s i))
+unfoldable pub product-before : (p : ℕ) (d : List ℕ) → ℕ → Z p .Car
+product-before p d zero = Z p .one
+product-before p d (suc i) = Z p .mul (product-before p d i) (el p (getD d i 0))
 
-pub record Products (p : ℕ) (s r : List ℕ) : Type 0 where
-  pub long : length r ≡ 10
-  pub each : (i : ℕ) → i ≤ 9 → Is p (getD r i 0) (product-before p s i)
+pub record Products (p : ℕ) (d r : List ℕ) : Type 0 where
+  pub ten : length r ≡ 10
+  pub each : (i : ℕ) → i ≤ 9 → Is p (getD r i 0) (product-before p d i)
 
-pub record QuotientsAsked (s : List ℕ) (p : ℕ) (r : List ℕ) : Type 0 where
+pub record QuotientsAsked (s : List ℕ) (p : ℕ) (d r : List ℕ) : Type 0 where
   pub long : length s ≡ fractions-size
   pub prime : Prime p
-  pub products : Products p s r
+  pub residues : Residues s p d
+  pub products : Products p d r
   pub unit : ¬ (getD r 9 0 ≡ 0)
 
 pub record Quotients (s : List ℕ) (p : ℕ) (cs : List ℕ) : Type 0 where
   pub nine : length cs ≡ 9
   pub each : (i : ℕ) → i < 9 → Quotient p (numerator s i) (denominator s i) (getD cs i 0)
+
+abbrev pub equation-from : ℕ → List ℕ → Equation
+equation-from p c =
+    record {
+      p = p;
+      a0 = 1;
+      c0 = getD c 0 0;
+      c1 = getD c 1 0;
+      c2 = getD c 2 0;
+      c3 = getD c 3 0;
+      c4 = getD c 4 0;
+      c5 = getD c 5 0;
+      c6 = getD c 6 0;
+      c7 = getD c 7 0;
+      c8 = getD c 8 0;
+    }
 
 pub record ReducedTo (s : List ℕ) (p : ℕ) (e : Equation) : Type 0 where
   pub passes : Passes (fractions-stages s p)

@@ -9,7 +9,7 @@ ghost use Rattle.field.specs.Residue.{el};
 ghost use Rattle.field.specs.Contract.{Is};
 ghost use Rattle.record.specs.Fractions.{signed, residue, numerator as numerator-of, denominator as denominator-of, FractionsForm};
 ghost use Rattle.calls.specs.Call.{ReduceCurve};
-ghost use Rattle.fractions.specs.Contract.{FractionAsked, ProductsAsked, Products, QuotientsAsked, Quotients, ReduceFound};
+ghost use Rattle.fractions.specs.Contract.{FractionAsked, ResiduesAsked, Residues, ProductsAsked, Products, QuotientsAsked, Quotients, equation-from, ReduceFound};
 
 // The least length of the result buffer, the length of a curve record.
 const ROOM: usize = 44;
@@ -60,16 +60,30 @@ fn denominator(s: &[u8], i: usize, p: u32) -> u32
     d % p
 }
 
-// The products of the denominators before each coefficient's, modulo p, and last the product of all.
-fn products(s: &[u8], p: u32) -> [u32; 10]
-    requires { ⌜ ProductsAsked (now s) p ⌝ }
-    ensures { λ r. ⌜ Products p (now (s .entry)) r ⌝ }
+// The nine denominators modulo p.
+fn residues(s: &[u8], p: u32) -> [u32; 9]
+    requires { ⌜ ResiduesAsked (now s) p ⌝ }
+    ensures { λ r. ⌜ Residues (now (s .entry)) p r ⌝ }
+{
+    let mut r = [0u32; 9];
+    let mut i = 0;
+    while i < 9 {
+        let residue = denominator(s, i, p);
+        r[i] = residue;
+        i += 1;
+    }
+    r
+}
+
+// The products of the numbers before each place of d, modulo p, and last the product of all.
+fn products(p: u32, d: [u32; 9]) -> [u32; 10]
+    requires { ⌜ ProductsAsked p d ⌝ }
+    ensures { λ r. ⌜ Products p d r ⌝ }
 {
     let mut r = [1u32; 10];
     let mut i = 0;
     while i < 9 {
-        let d = denominator(s, i, p);
-        let product = field::mul(p, r[i], d);
+        let product = field::mul(p, r[i], d[i]);
         r[i + 1] = product;
         i += 1;
     }
@@ -77,8 +91,8 @@ fn products(s: &[u8], p: u32) -> [u32; 10]
 }
 
 // The nine quotients modulo p, with one inversion: that of the product of all denominators, from the last coefficient to the first.
-fn quotients(s: &[u8], p: u32, before: [u32; 10]) -> [u32; 9]
-    requires { ⌜ QuotientsAsked (now s) p before ⌝ }
+fn quotients(s: &[u8], p: u32, d: [u32; 9], before: [u32; 10]) -> [u32; 9]
+    requires { ⌜ QuotientsAsked (now s) p d before ⌝ }
     ensures { λ r. ⌜ Quotients (now (s .entry)) p r ⌝ }
 {
     let mut r = [0u32; 9];
@@ -87,13 +101,31 @@ fn quotients(s: &[u8], p: u32, before: [u32; 10]) -> [u32; 9]
     while 0 < i {
         i -= 1;
         let n = numerator(s, i, p);
-        let d = denominator(s, i, p);
         let inverse = field::mul(p, before[i], unit);
         let quotient = field::mul(p, n, inverse);
         r[i] = quotient;
-        unit = field::mul(p, unit, d);
+        unit = field::mul(p, unit, d[i]);
     }
     r
+}
+
+// The equation with the nine coefficients c, modulo p.
+fn equation_from(p: u32, c: [u32; 9]) -> Equation
+    ensures { λ r. ⌜ r ≡ equation-from p c ⌝ }
+{
+    Equation {
+        p,
+        a0: 1,
+        c0: c[0],
+        c1: c[1],
+        c2: c[2],
+        c3: c[3],
+        c4: c[4],
+        c5: c[5],
+        c6: c[6],
+        c7: c[7],
+        c8: c[8],
+    }
 }
 
 // The equation of the reduced curve, or the number of the first cause of refusal before the result buffer.
@@ -106,24 +138,13 @@ fn reduce(s: &[u8], p: u32) -> CurveAnswer
     if !reader::is_modulus(p) {
         return CurveAnswer::Refused(3);
     }
-    let before = products(s, p);
+    let d = residues(s, p);
+    let before = products(p, d);
     if before[9] == 0 {
         return CurveAnswer::Refused(13);
     }
-    let c = quotients(s, p, before);
-    let e = Equation {
-        p,
-        a0: 1,
-        c0: c[0],
-        c1: c[1],
-        c2: c[2],
-        c3: c[3],
-        c4: c[4],
-        c5: c[5],
-        c6: c[6],
-        c7: c[7],
-        c8: c[8],
-    };
+    let c = quotients(s, p, d, before);
+    let e = equation_from(p, c);
     if !reader::is_nonsingular(e) {
         return CurveAnswer::Refused(5);
     }

@@ -1,4 +1,4 @@
--- That the worked sums hold.
+-- That the worked sums and the examples hold.
 pub mod Vanish
 pub mod Tests
 pub mod Element
@@ -9,3 +9,4 @@ pub mod Negative
 pub mod Rows
 pub mod Certificates
 pub mod Worked
+pub mod Fractions

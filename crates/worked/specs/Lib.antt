@@ -1,2 +1,3 @@
--- The worked sums of document 01.
+-- The worked sums of document 01, and the examples of document 02.
 pub mod Table
+pub mod Fractions

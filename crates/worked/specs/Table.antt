@@ -65,10 +65,10 @@ Means (divisor-accepted c a) = AcceptedCurve c × Record c a
 Means (curve-refused c n) = FirstCause (curve-stages c) n
 Means (curve-accepted c) = AcceptedCurve c
 
--- a call that writes, on a buffer of 40 bytes or more, returns the length of w and writes w
-abbrev pub Writes-just : (List ℕ → ℤ → List ℕ → Type 0) → List ℕ → Type 0
-Writes-just Call w =
-    (out : List ℕ) (r : ℤ) (out′ : List ℕ) → room ≤ length out → Call out r out′ → Gives w out r out′
+-- a call that writes, on a buffer of the least length or more, returns the length of w and writes w
+abbrev pub Writes-just : ℕ → (List ℕ → ℤ → List ℕ → Type 0) → List ℕ → Type 0
+Writes-just least Call w =
+    (out : List ℕ) (r : ℤ) (out′ : List ℕ) → least ≤ length out → Call out r out′ → Gives w out r out′
 
 -- a check returns n
 abbrev pub Returns-just : (ℤ → Type 0) → ℤ → Type 0
@@ -76,10 +76,10 @@ Returns-just Call n = (r : ℤ) → Call r → r ≡ n
 
 abbrev pub Answer : Row → Type 0
 Answer (point c a b w) = Returns-just (CheckDivisor c w) (pos 1)
-Answer (sum c a b w) = Writes-just (Sum c a b) w
-Answer (double c a w) = Writes-just (Double c a) w
-Answer (negative c a w) = Writes-just (Negative c a) w
-Answer (multiple c a n w) = Writes-just (Multiple c a (pos n)) w
+Answer (sum c a b w) = Writes-just room (Sum c a b) w
+Answer (double c a w) = Writes-just room (Double c a) w
+Answer (negative c a w) = Writes-just room (Negative c a) w
+Answer (multiple c a n w) = Writes-just room (Multiple c a (pos n)) w
 Answer (divisor-refused c a n) = Returns-just (CheckDivisor c a) (minus n)
 Answer (divisor-accepted c a) = Returns-just (CheckDivisor c a) (pos 1)
 Answer (curve-refused c n) = Returns-just (CheckCurve c) (minus n)

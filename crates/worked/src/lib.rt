@@ -1,1 +1,1 @@
-// Theory only: the worked sums of document 01 and that they hold are in specs/ and proofs/.
+// Theory only: the worked sums of document 01, the examples of document 02 and that they hold are in specs/ and proofs/.

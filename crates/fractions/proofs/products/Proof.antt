@@ -1,24 +1,18 @@
--- In the loop the products up to that before the coefficient i are in place; its measure is 9 − i.
-use borrow.Author.Needs.{needs}
+-- In the loop the products up to that before place i are in place; its measure is 9 − i.
 use Prim.Native.Nat.{_-_}
 use native.Mathlib.Omega.{arith}
-use denote.Ref.{now}
 use Rattle.fractions.proofs.Loops.{Filled, filled-start, filled-more, filled-done}
 use Rattle.fractions.proofs.products.Statement.{statement}
 use Rattle.fractions.proofs.products.Tie as tie
 
 abbrev Inv-loop : tie.InvT-loop
-Inv-loop s p r₀ i₀ r i = Filled p s i r
+Inv-loop p d r₀ i₀ r i = Filled p d i r
 
 abbrev μ-loop : tie.MeasureT-loop
-μ-loop s p r₀ i₀ r i = 9 - i
+μ-loop p d r₀ i₀ r i = 9 - i
 
 loop-holds : tie.Need-loop-holds Inv-loop μ-loop
-loop-holds c = filled-start (c .before .args .p) (now (c .before .args .s)) (c .before .pre .large)
-
-denominator-requires : tie.Need-denominator-requires Inv-loop μ-loop
-denominator-requires c κs =
-    record { long = c .before .before .before .pre .long; place = c .loop-test .taken; positive = omega (arith, c .before .before .before .pre .large) }
+loop-holds c = filled-start (c .args .p) _ (c .pre .large)
 
 mul-mul : tie.Need-mul-mul Inv-loop μ-loop
 mul-mul c = omega arith
@@ -26,8 +20,16 @@ mul-mul c = omega arith
 array-read-mul : tie.Need-array-read-mul Inv-loop μ-loop
 array-read-mul c = omega arith
 
+mul-mul-2 : tie.Need-mul-mul-2 Inv-loop μ-loop
+mul-mul-2 c = omega arith
+
+array-read-mul-2 : tie.Need-array-read-mul-2 Inv-loop μ-loop
+array-read-mul-2 c = omega arith
+
 mul-requires : tie.Need-mul-requires Inv-loop μ-loop
-mul-requires c κs = record { below-1 = c .before .before .loop .inv .each (c .before .before .loop .i) (omega arith) .below; below-2 = c .denominator .ensures .below }
+mul-requires c κs =
+    let l = c .before .loop in
+    record { below-1 = l .inv .each (l .i) (omega arith) .below; below-2 = c .before .before .pre .below (l .i) (c .loop-test .taken) }
 
 add-r : tie.Need-add-r Inv-loop μ-loop
 add-r c = omega arith
@@ -46,15 +48,15 @@ loop-less c = omega arith
 
 loop-again : tie.Need-loop-again Inv-loop μ-loop
 loop-again c =
-    let start = c .before .before .before .before .before in
-    filled-more (start .args .p) (now (start .args .s)) (c .before .before .loop-test .taken) (c .before .before .before .loop .inv) (c .before .denominator .ensures) (c .mul .ensures)
+    let start = c .before .before .before in
+    filled-more (start .args .p) _ (c .before .loop-test .taken) (c .before .before .loop .inv) (c .mul .ensures)
 
 returns : tie.Need-returns Inv-loop μ-loop
 returns c =
-    let start = c .before .before .before in
-    filled-done (start .args .p) (now (start .args .s)) (omega (arith, c .loop-test .left)) (c .before .loop .inv)
+    let start = c .before .before in
+    filled-done (start .args .p) _ (omega (arith, c .loop-test .left)) (c .before .loop .inv)
 
 pub products-spec : {M : Type 1} → statement M
 products-spec =
     tie.close
-    (tie.spec Inv-loop μ-loop loop-holds denominator-requires mul-mul array-read-mul mul-requires add-r mul-r array-write-r add-i loop-less loop-again returns)
+    (tie.spec Inv-loop μ-loop loop-holds mul-mul array-read-mul mul-mul-2 array-read-mul-2 mul-requires add-r mul-r array-write-r add-i loop-less loop-again returns)

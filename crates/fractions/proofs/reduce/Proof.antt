@@ -24,80 +24,63 @@ returns-2 c =
     let form = c .before .before .before .has-form .ensures .holds (not-false _ (c .before .before .if1 .left)) in
     inr (form, inl (c .before .is-modulus .ensures .fails (not-true _ (c .if2 .taken)), refl))
 
-products-requires : tie.Need-products-requires
-products-requires c κs =
+residues-requires : tie.Need-residues-requires
+residues-requires c κs =
     let form = c .before .before .before .has-form .ensures .holds (not-false _ (c .before .before .if1 .left)) in
     let m = c .before .is-modulus .ensures .holds (not-false _ (c .if2 .left)) in
-    record { long = form .2; large = omega (arith, m .0 .two-le) }
+    record { long = form .2; positive = omega (arith, m .0 .two-le) }
+
+products-requires : tie.Need-products-requires
+products-requires c κs =
+    let m = c .before .before .is-modulus .ensures .holds (not-false _ (c .before .if2 .left)) in
+    record { large = omega (arith, m .0 .two-le); below = λ i l. c .residues .ensures .each i l .below }
 
 array-read-if3 : tie.Need-array-read-if3
 array-read-if3 c = search needs
 
 returns-3 : tie.Need-returns-3
 returns-3 c =
-    let start = c .before .before .before .before .before .before .before in
-    let form = c .before .before .before .before .before .has-form .ensures .holds (not-false _ (c .before .before .before .before .if1 .left)) in
-    let m = c .before .before .before .is-modulus .ensures .holds (not-false _ (c .before .before .if2 .left)) in
-    inr (form, inr (m, inl (zero-refused (start .args .p) (now (start .args .s)) (m .0) (c .before .products .ensures) (c .if3 .taken), refl)))
+    let start = c .before .before .before .before .before .before .before .before in
+    let form = c .before .before .before .before .before .before .has-form .ensures .holds (not-false _ (c .before .before .before .before .before .if1 .left)) in
+    let m = c .before .before .before .before .is-modulus .ensures .holds (not-false _ (c .before .before .before .if2 .left)) in
+    inr (form, inr (m, inl (zero-refused (start .args .p) _ (m .0) (c .before .before .residues .ensures) (c .before .products .ensures) (c .if3 .taken), refl)))
 
 quotients-requires : tie.Need-quotients-requires
 quotients-requires c κs =
-    let form = c .before .before .before .before .before .has-form .ensures .holds (not-false _ (c .before .before .before .before .if1 .left)) in
-    let m = c .before .before .before .is-modulus .ensures .holds (not-false _ (c .before .before .if2 .left)) in
-    record { long = form .2; prime = m .0; products = c .before .products .ensures; unit = c .if3 .left }
+    let form = c .before .before .before .before .before .before .has-form .ensures .holds (not-false _ (c .before .before .before .before .before .if1 .left)) in
+    let m = c .before .before .before .before .is-modulus .ensures .holds (not-false _ (c .before .before .before .if2 .left)) in
+    record { long = form .2; prime = m .0; residues = c .before .before .residues .ensures; products = c .before .products .ensures; unit = c .if3 .left }
 
-array-read-t11 : tie.Need-array-read-t11
-array-read-t11 c = search needs
-
-array-read-t17 : tie.Need-array-read-t17
-array-read-t17 c = search needs
-
-array-read-t20 : tie.Need-array-read-t20
-array-read-t20 c = search needs
-
-array-read-t23 : tie.Need-array-read-t23
-array-read-t23 c = search needs
-
-array-read-t26 : tie.Need-array-read-t26
-array-read-t26 c = search needs
-
-array-read-t29 : tie.Need-array-read-t29
-array-read-t29 c = search needs
-
-array-read-t32 : tie.Need-array-read-t32
-array-read-t32 c = search needs
-
-array-read-t35 : tie.Need-array-read-t35
-array-read-t35 c = search needs
-
-array-read-t38 : tie.Need-array-read-t38
-array-read-t38 c = search needs
+equation-from-requires : tie.Need-equation-from-requires
+equation-from-requires c κs = search needs
 
 is-nonsingular-requires : tie.Need-is-nonsingular-requires
 is-nonsingular-requires c κs =
-    let start = c .before .before .before .before .before .before .before .before in
-    let m = c .before .before .before .before .is-modulus .ensures .holds (not-false _ (c .before .before .before .if2 .left)) in
-    nonsingular-asked (now (start .args .s)) (start .args .p) (m .0) (m .1) (c .quotients .result) (c .quotients .ensures)
+    let start = c .before .before .before .before .before .before .before .before .before .before in
+    let m = c .before .before .before .before .before .before .is-modulus .ensures .holds (not-false _ (c .before .before .before .before .before .if2 .left)) in
+    nonsingular-asked (now (start .args .s)) (start .args .p) (m .0) (m .1) (c .before .quotients .result) (c .before .quotients .ensures) (c .equation-from .result) (c .equation-from .ensures)
 
 returns-4 : tie.Need-returns-4
 returns-4 c =
-    let start = c .before .before .before .before .before .before .before .before .before .before in
-    let form = c .before .before .before .before .before .before .before .before .has-form .ensures .holds (not-false _ (c .before .before .before .before .before .before .before .if1 .left)) in
-    let m = c .before .before .before .before .before .before .is-modulus .ensures .holds (not-false _ (c .before .before .before .before .before .if2 .left)) in
-    let pass = unit-passes (start .args .p) (now (start .args .s)) (m .0) (c .before .before .before .before .products .ensures) (c .before .before .before .if3 .left) in
-    let q = c .before .before .quotients in
+    let start = c .before .before .before .before .before .before .before .before .before .before .before .before in
+    let form = c .before .before .before .before .before .before .before .before .before .before .has-form .ensures .holds (not-false _ (c .before .before .before .before .before .before .before .before .before .if1 .left)) in
+    let m = c .before .before .before .before .before .before .before .before .is-modulus .ensures .holds (not-false _ (c .before .before .before .before .before .before .before .if2 .left)) in
+    let pass = unit-passes (start .args .p) _ (m .0) (c .before .before .before .before .before .before .residues .ensures) (c .before .before .before .before .before .products .ensures) (c .before .before .before .before .if3 .left) in
+    let q = c .before .before .before .quotients in
+    let e = c .before .before .equation-from in
     let n = c .before .is-nonsingular .ensures .fails (not-true _ (c .if4 .taken)) in
-    inr (form, inr (m, inr (pass, inl (reduced-singular (now (start .args .s)) (start .args .p) (m .0) (m .1) (q .result) (q .ensures) pass n, refl))))
+    inr (form, inr (m, inr (pass, inl (reduced-singular (now (start .args .s)) (start .args .p) (m .0) (m .1) (q .result) (q .ensures) (e .result) (e .ensures) pass n, refl))))
 
 returns-5 : tie.Need-returns-5
 returns-5 c =
-    let start = c .before .before .before .before .before .before .before .before .before .before in
-    let form = c .before .before .before .before .before .before .before .before .has-form .ensures .holds (not-false _ (c .before .before .before .before .before .before .before .if1 .left)) in
-    let m = c .before .before .before .before .before .before .is-modulus .ensures .holds (not-false _ (c .before .before .before .before .before .if2 .left)) in
-    let pass = unit-passes (start .args .p) (now (start .args .s)) (m .0) (c .before .before .before .before .products .ensures) (c .before .before .before .if3 .left) in
-    let q = c .before .before .quotients in
+    let start = c .before .before .before .before .before .before .before .before .before .before .before .before in
+    let form = c .before .before .before .before .before .before .before .before .before .before .has-form .ensures .holds (not-false _ (c .before .before .before .before .before .before .before .before .before .if1 .left)) in
+    let m = c .before .before .before .before .before .before .before .before .is-modulus .ensures .holds (not-false _ (c .before .before .before .before .before .before .before .if2 .left)) in
+    let pass = unit-passes (start .args .p) _ (m .0) (c .before .before .before .before .before .before .residues .ensures) (c .before .before .before .before .before .products .ensures) (c .before .before .before .before .if3 .left) in
+    let q = c .before .before .before .quotients in
+    let e = c .before .before .equation-from in
     let smooth = c .before .is-nonsingular .ensures .holds (not-false _ (c .if4 .left)) in
-    reduced-accepted (now (start .args .s)) (start .args .p) (m .0) (m .1) (q .result) (q .ensures) form pass smooth
+    reduced-accepted (now (start .args .s)) (start .args .p) (m .0) (m .1) (q .result) (q .ensures) (e .result) (e .ensures) form pass smooth
 
 pub reduce-spec : {M : Type 1} → statement M
 reduce-spec =
@@ -107,19 +90,12 @@ reduce-spec =
     returns
     is-modulus-requires
     returns-2
+    residues-requires
     products-requires
     array-read-if3
     returns-3
     quotients-requires
-    array-read-t11
-    array-read-t17
-    array-read-t20
-    array-read-t23
-    array-read-t26
-    array-read-t29
-    array-read-t32
-    array-read-t35
-    array-read-t38
+    equation-from-requires
     is-nonsingular-requires
     returns-4
     returns-5)
