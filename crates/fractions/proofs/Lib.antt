@@ -1,6 +1,3 @@
--- Why the quotients of fractions modulo p are found.
-pub mod Signed
-pub mod Denominators
-pub mod Loops
+-- Why the reduced curve is found and written.
 pub mod Reduced
 pub mod Written

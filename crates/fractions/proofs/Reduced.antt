@@ -21,7 +21,8 @@ use Rattle.checks.specs.Contract.{equation-numbers, equation-value}
 use Rattle.checks.proofs.Answer.{nine}
 use Rattle.reader.specs.Contract.{NonsingularAsked}
 use Rattle.reader.proofs.CurveReader.{curve-value}
-use Rattle.fractions.specs.Contract.{Quotients, equation-from, ReducedTo}
+use Rattle.quotients.specs.Contract.{Quotients}
+use Rattle.fractions.specs.Contract.{equation-from, ReducedTo}
 
 module _ (s : List ℕ) (p : ℕ) (prime : Prime p) (few : p ≤ limit) (c : List ℕ) (q : Quotients s p c) (e : Equation) (is : e ≡ equation-from p c) where
   abbrev cs : List ℕ

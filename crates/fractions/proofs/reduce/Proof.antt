@@ -5,7 +5,7 @@ use mathlib.Core.Logic.{inl, inr}
 use native.Mathlib.Omega.{arith}
 use borrow.Author.Tests.{not-true, not-false}
 use denote.Ref.{now}
-use Rattle.fractions.proofs.Denominators.{zero-refused, unit-passes}
+use Rattle.quotients.proofs.Denominators.{zero-refused, unit-passes}
 use Rattle.fractions.proofs.Reduced.{nonsingular-asked, reduced-accepted, reduced-singular}
 use Rattle.fractions.proofs.reduce.Statement.{statement}
 use Rattle.fractions.proofs.reduce.Tie as tie

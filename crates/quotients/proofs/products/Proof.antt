@@ -1,9 +1,9 @@
 -- In the loop the products up to that before place i are in place; its measure is 9 − i.
 use Prim.Native.Nat.{_-_}
 use native.Mathlib.Omega.{arith}
-use Rattle.fractions.proofs.Loops.{Filled, filled-start, filled-more, filled-done}
-use Rattle.fractions.proofs.products.Statement.{statement}
-use Rattle.fractions.proofs.products.Tie as tie
+use Rattle.quotients.proofs.Loops.{Filled, filled-start, filled-more, filled-done}
+use Rattle.quotients.proofs.products.Statement.{statement}
+use Rattle.quotients.proofs.products.Tie as tie
 
 abbrev Inv-loop : tie.InvT-loop
 Inv-loop p d r₀ i₀ r i = Filled p d i r

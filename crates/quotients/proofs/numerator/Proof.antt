@@ -3,8 +3,8 @@ use borrow.Author.Needs.{needs}
 use mathlib.Core.Path.{ap, _∙_}
 use Prim.Native.Nat.{ℕ}
 use Rattle.record.specs.Fractions.{signed, residue}
-use Rattle.fractions.proofs.numerator.Statement.{statement}
-use Rattle.fractions.proofs.numerator.Tie as tie
+use Rattle.quotients.proofs.numerator.Statement.{statement}
+use Rattle.quotients.proofs.numerator.Tie as tie
 
 mul-read-u32 : tie.Need-mul-read-u32
 mul-read-u32 c = search needs

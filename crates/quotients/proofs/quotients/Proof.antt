@@ -3,9 +3,9 @@ use borrow.Author.Needs.{needs}
 use Prim.Native.Nat.{_-_, _≤_}
 use native.Mathlib.Omega.{arith}
 use denote.Ref.{now}
-use Rattle.fractions.proofs.Loops.{Divided, divided-start, divided-more, divided-done}
-use Rattle.fractions.proofs.quotients.Statement.{statement}
-use Rattle.fractions.proofs.quotients.Tie as tie
+use Rattle.quotients.proofs.Loops.{Divided, divided-start, divided-more, divided-done}
+use Rattle.quotients.proofs.quotients.Statement.{statement}
+use Rattle.quotients.proofs.quotients.Tie as tie
 
 abbrev Inv-loop : tie.InvT-loop
 Inv-loop s p d before r₀ unit₀ i₀ r unit i = Divided s p d unit i r × (i ≤ 9)

@@ -4,8 +4,8 @@ use mathlib.Core.Path.{ap, _∙_}
 use native.Mathlib.Nat.{mod-lt}
 use Rattle.field.specs.Residue.{el}
 use Rattle.field.proofs.Element.{el-mod}
-use Rattle.fractions.proofs.denominator.Statement.{statement}
-use Rattle.fractions.proofs.denominator.Tie as tie
+use Rattle.quotients.proofs.denominator.Statement.{statement}
+use Rattle.quotients.proofs.denominator.Tie as tie
 
 mul-read-u32 : tie.Need-mul-read-u32
 mul-read-u32 c = search needs

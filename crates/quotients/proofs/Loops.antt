@@ -20,8 +20,8 @@ use Rattle.field.specs.Inverse.{inverse}
 use Rattle.field.proofs.Element.{el-one, el-pos}
 use Rattle.prime_field.specs.Field.{F}
 use Rattle.record.specs.Fractions.{residue, numerator, denominator, Quotient}
-use Rattle.fractions.specs.Contract.{Residues, product-before, Products, QuotientsAsked, Quotients}
-use Rattle.fractions.proofs.Denominators.{product-first, product-suc, unit-step, quotient-step}
+use Rattle.quotients.specs.Contract.{Residues, product-before, Products, QuotientsAsked, Quotients}
+use Rattle.quotients.proofs.Denominators.{product-first, product-suc, unit-step, quotient-step}
 
 -- what holds at each place that is asked for holds after a store
 stored : (P : ℕ → ℕ → Type 0) (xs : List ℕ) (k v : ℕ) → k < length xs → P k v → (j : ℕ) → (¬ (j ≡ k) → P j (getD xs j 0)) → P j (getD (set xs k v) j 0)

@@ -2,9 +2,9 @@
 use Prim.Native.Nat.{_-_}
 use native.Mathlib.Omega.{arith}
 use denote.Ref.{now}
-use Rattle.fractions.proofs.Loops.{Read, read-start, read-more, read-done}
-use Rattle.fractions.proofs.residues.Statement.{statement}
-use Rattle.fractions.proofs.residues.Tie as tie
+use Rattle.quotients.proofs.Loops.{Read, read-start, read-more, read-done}
+use Rattle.quotients.proofs.residues.Statement.{statement}
+use Rattle.quotients.proofs.residues.Tie as tie
 
 abbrev Inv-loop : tie.InvT-loop
 Inv-loop s p r₀ i₀ r i = Read s p i r

@@ -7,9 +7,9 @@ use Prim.Native.Nat.{ℕ}
 use Rattle.algebra.specs.Ring.{CommRing}
 use Rattle.field.specs.Residue.{Z, el}
 use Rattle.field.proofs.Element.{el-mod}
-use Rattle.fractions.proofs.Signed.{signed-up, signed-down}
-use Rattle.fractions.proofs.signed_residue.Statement.{statement}
-use Rattle.fractions.proofs.signed_residue.Tie as tie
+use Rattle.quotients.proofs.Signed.{signed-up, signed-down}
+use Rattle.quotients.proofs.signed_residue.Statement.{statement}
+use Rattle.quotients.proofs.signed_residue.Tie as tie
 
 rem-result : tie.Need-rem-result
 rem-result c = search needs

@@ -22,7 +22,7 @@ use Rattle.prime_field.specs.Field.{F}
 use Rattle.curve.proofs.Poles.{no-zero-divisors}
 use Rattle.record.specs.Fractions.{residue, denominator, Quotient, DenominatorsPass}
 use Rattle.record.proofs.Fractions.{denominator-zero, denominator-unit}
-use Rattle.fractions.specs.Contract.{Residues, product-before, Products}
+use Rattle.quotients.specs.Contract.{Residues, product-before, Products}
 
 -- q·m = 1 with q = b·d gives m·d times b = 1
 unit-step-ring : (R : CommRing) (b d m : R .Car) → R .mul (R .mul b d) m ≡ R .one → R .mul b (R .mul m d) ≡ R .one

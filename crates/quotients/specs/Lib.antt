@@ -1,0 +1,2 @@
+-- What the functions on the quotients of fractions require and ensure.
+pub mod Contract
