@@ -26,10 +26,10 @@
    functions of the archive that see to this. The functions themselves, reached by a pointer to them or by a name in
    parentheses, as (c34_sum)(...), want a pointer that is not null even with length 0.
 
-   Results. A call that writes a divisor needs a buffer of at least C34_BUFFER bytes, whatever the result, and the one that
-   writes a curve C34_CURVE_LENGTH. It writes the record from the buffer's start, returns the record's length and leaves the
-   bytes after it as they were. On a refusal every buffer stays as it was and the call returns minus the number of the
-   refusal (C34_REFUSED_...).
+   Results. A call that writes a divisor needs a buffer of at least C34_BUFFER bytes, whatever the result, and the one
+   that writes a curve needs C34_CURVE_LENGTH. It writes the record from the buffer's start, returns the record's length
+   and leaves the bytes after it as they were. On a refusal every buffer stays as it was and the call returns minus the
+   number of the refusal (C34_REFUSED_...).
 
    Refusals. The first cause in this order decides: the curve (1 for its size, 2, 1 for the kind's length, 3, 4, 5);
    C34_REFUSED_LIST_LIMIT; each divisor from first to last (6 for its size, 7, 6 for the kind's length, 8, 9);

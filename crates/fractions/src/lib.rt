@@ -8,7 +8,7 @@ ghost use Rattle.record.specs.Fractions.{FractionsForm};
 ghost use Rattle.calls.specs.Call.{ReduceCurve};
 ghost use Rattle.fractions.specs.Contract.{equation-from, ReduceFound};
 
-// The least length of the result buffer, the length of a curve record.
+// The least length of the result buffer: that of a curve record.
 const ROOM: usize = 44;
 
 // Has the record the size, the kind and the length of one of fractions?
@@ -47,7 +47,8 @@ fn equation_from(p: u32, c: [u32; 9]) -> Equation
     }
 }
 
-// The equation of the reduced curve, or the number of the first cause of refusal before the result buffer.
+// The equation of the reduced curve, or the number of the first cause of refusal before the result buffer. The prime p divides a
+// denominator exactly if the product of all is 0 modulo p.
 fn reduce(s: &[u8], p: u32) -> CurveAnswer
     ensures { λ r. ⌜ ReduceFound (now (s .entry)) p r ⌝ }
 {

@@ -5,7 +5,7 @@ ghost use Rattle.field.specs.Contract.{Is};
 ghost use Rattle.record.specs.Fractions.{signed, residue, numerator as numerator-of, denominator as denominator-of};
 ghost use Rattle.quotients.specs.Contract.{FractionAsked, ResiduesAsked, Residues, ProductsAsked, Products, QuotientsAsked, Quotients};
 
-// The signed number that has the 32 bits of n, modulo p.
+// The signed number that has the 32 bits of n, modulo p. From 2³¹ on it is negative: what is missing to 2³² is negated.
 fn signed_residue(n: u32, p: u32) -> u32
     requires { ⌜ 0 < p ⌝ }
     ensures { λ r. ⌜ Is p r (residue p (signed n)) ⌝ }
@@ -64,7 +64,8 @@ pub fn products(p: u32, d: [u32; 9]) -> [u32; 10]
     r
 }
 
-// The nine quotients modulo p, with one inversion: that of the product of all denominators, from the last coefficient to the first.
+// The nine quotients modulo p, from the last to the first, with one inversion: unit is the inverse of the product of the denominators before
+// place i, first of all nine. Times the product before the place below, it is the inverse of the denominator there.
 pub fn quotients(s: &[u8], p: u32, d: [u32; 9], before: [u32; 10]) -> [u32; 9]
     requires { ⌜ QuotientsAsked (now s) p d before ⌝ }
     ensures { λ r. ⌜ Quotients (now (s .entry)) p r ⌝ }
