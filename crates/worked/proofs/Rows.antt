@@ -22,7 +22,6 @@ use Rattle.calls.specs.Answer.{minus, refused, answered}
 use Rattle.calls.specs.Class.{IsSum, IsListSum}
 use Rattle.calls.specs.Call.{divisor-of}
 use Rattle.calls.proofs.Answers.{writes-enough}
-use Rattle.calls.proofs.Class.{Accepted}
 use Rattle.calls.proofs.Multiples.{list-single, multiple-add}
 use Rattle.calls.proofs.Exists.{one-passes, two-passes}
 use Rattle.calls.proofs.Determined.{check-curve-determined, check-divisor-determined, sum-determined, double-determined, negative-determined, multiple-determined}
