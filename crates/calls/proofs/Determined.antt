@@ -9,8 +9,8 @@ use lib.IntN.{ℤ, pos}
 use Rattle.record.specs.Cause.{Passes}
 use Rattle.record.specs.Curve.{curve-size, modulus, equation, curve-stages, AcceptedCurve}
 use Rattle.record.specs.Listed.{Listed}
-use Rattle.record.proofs.Cause.{passes-append}
 use Rattle.record.specs.Fractions.{fractions-stages}
+use Rattle.record.proofs.Cause.{passes-append}
 use Rattle.record.proofs.Lists.{curve-sound, listed-once}
 use Rattle.record.proofs.Fractions.{fractions-sound, reduced-one}
 use Rattle.calls.specs.Class.{IsListSum}
