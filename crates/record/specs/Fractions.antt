@@ -11,6 +11,7 @@
 --   DenominatorsPass s p   no denominator is divisible by p
 --   fractions-stages s p   what is checked before the result buffer, in order: 12, 3, 13, 5
 use mathlib.Core.Path.{_≡_}
+use mathlib.Core.Bool.{cond}
 use mathlib.Core.List.{List, [], _∷_}
 use Prim.Native.Nat.{ℕ, suc, _+_, _*_, _%_, _<_}
 use lib.ListN.{length, getD}
@@ -18,7 +19,6 @@ use lib.IntN.{ℤ, pos, negsuc, _-ℤ_}
 use lib.Dec.{leb}
 use Rattle.algebra.specs.Ring.{CommRing}
 use Rattle.field.specs.Residue.{Z, el}
-use Rattle.curve.specs.Sequence.{pick}
 use Rattle.layout.specs.Layout.{number2, number4, record-bytes}
 use Rattle.record.specs.Cause.{Stage, must, Sized}
 use Rattle.record.specs.Curve.{curve-kind, prime-stage, AcceptedCurve}
@@ -31,7 +31,7 @@ fractions-size = 76
 
 -- two's complement: from 2³¹ on, n stands for n − 2³²
 unfoldable pub signed : ℕ → ℤ
-signed n = pick (leb 2147483648 n) (pos n -ℤ pos 4294967296) (pos n)
+signed n = cond (leb 2147483648 n) (pos n -ℤ pos 4294967296) (pos n)
 
 -- "Each coefficient is a signed 32-bit numerator (two's complement) and after it an unsigned 32-bit denominator."
 abbrev pub numerator : List ℕ → ℕ → ℤ
