@@ -3,7 +3,7 @@
 --   sum-record, negative-record, list-record, multiple-record  the results of the calls
 --   writes-some            a call whose stages are all passed but for the buffer's length has an answer, if there is a result
 --   one-passes, two-passes, list-passes    what a call checks before the buffer is passed on an accepted curve with accepted divisors
---   sum-answered, double-answered, negative-answered, multiple-answered, list-answered   each call has an answer
+--   sum-answered, double-answered, negative-answered, multiple-answered, list-answered, reduce-answered   each call has an answer
 use mathlib.Core.Path.{refl}
 use mathlib.Core.List.{List, [], _∷_, _++_}
 use Prim.Native.Nat.{ℕ, suc, _≤_}
@@ -20,11 +20,12 @@ use Rattle.ideal.proofs.Finite.{BasedIdeal, product-based, productof-based}
 use Rattle.record.specs.Cause.{Stage, Passes}
 use Rattle.record.specs.Curve.{modulus, equation, curve-stages, AcceptedCurve, setting-of, accepted-limit}
 use Rattle.record.specs.Listed.{Listed, list-limit}
+use Rattle.record.specs.Fractions.{fractions-stages}
 use Rattle.record.proofs.Cause.{passes-append}
 use Rattle.record.proofs.Suffices.{OneRecord, RecordWith, ReducedRecord, record-with, record-reduced}
 use Rattle.calls.specs.Answer.{minus, Writes}
 use Rattle.calls.specs.Class.{Ring, Ideal, poles-on, zero-record, ReducedOf, IsSum, IsNegative, IsListSum, IsMultiple}
-use Rattle.calls.specs.Call.{Sum, Double, Negative, Multiple, ListSum, divisor-of, list-of}
+use Rattle.calls.specs.Call.{Sum, Double, Negative, Multiple, ListSum, ReduceCurve, divisor-of, list-of}
 use Rattle.calls.proofs.Class.{Accepted, AcceptedRow, accepted-based, all-based}
 use Rattle.calls.proofs.Multiples.{list-class, copies-accepted}
 use Rattle.calls.proofs.Answers.{writes-short, writes-enough}
@@ -109,3 +110,6 @@ module _ (c : List ℕ) (A : AcceptedCurve c) where
     where
       go : (w : List ℕ) × IsListSum c rs w → (w : List ℕ) × ((ts : List (List ℕ)) × Listed (modulus c) (equation c) s ts × IsListSum c ts w)
       go (w, t) = (w, (rs, l, t))
+
+pub reduce-answered : (s : List ℕ) (p : ℕ) → Passes (fractions-stages s p) → (out : List ℕ) → (r : ℤ) × (out′ : List ℕ) × ReduceCurve s p out r out′
+reduce-answered s p h out = writes-some (fractions-stages s p) h (h .1 .1 .1 .0) out

@@ -21,7 +21,7 @@ minus (suc n) = negsuc n
 abbrev pub Gives : (w out : List ℕ) → ℤ → List ℕ → Type 0
 Gives w out r out′ = (r ≡ pos (length w)) × (out′ ≡ w ++ drop (length w) out)
 
--- "result buffer under 40 bytes", "last 10"; document 02: "demand 1 and the table of refusals take in this size and each new number, size"
+-- "result buffer under 40 bytes", "last 10"; document 02: "The result buffer needs 44 bytes; demand 1 and the table of refusals take in this size"
 abbrev pub buffer : ℕ → List ℕ → List Stage
 buffer least out = must 10 (least ≤ length out) ∷ []
 
