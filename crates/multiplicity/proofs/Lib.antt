@@ -1,0 +1,3 @@
+-- Laws of spans inside others.
+pub mod Rests
+pub mod Powers

@@ -1,0 +1,2 @@
+-- What the functions on triples inside others require and ensure.
+pub mod Contract

@@ -1,0 +1,2 @@
+-- Why read_pair finds what it finds.
+pub mod Pairs

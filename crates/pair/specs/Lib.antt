@@ -1,0 +1,2 @@
+-- What the functions on pairs of coordinates ensure.
+pub mod Contract

@@ -1,0 +1,4 @@
+-- Ideals that lie inside powers of different ideals.
+pub mod Meet
+pub mod Products
+pub mod Bound

@@ -1,0 +1,2 @@
+-- Powers of an ideal.
+pub mod Power

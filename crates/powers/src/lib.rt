@@ -1,0 +1,1 @@
+// Theory only: powers of ideals are in specs/ and proofs/.
