@@ -1,6 +1,7 @@
 -- The two calls on points. c is the curve's bytes, ns the numbers of the points, d a divisor's bytes, out the lent slice of the result.
 --   pairs-limit, scan-limit        the most pairs of the first call, the largest modulus of the second
 --   pairs ns, coordinates ps       the pairs of a list of numbers, and the numbers of a list of pairs
+--   numbers-stage ns               14 for the count of numbers
 --   pair-stages, pairs-stages      what is checked of one pair, and of each pair from first to last: 8, 9
 --   PointsSum c ns out r out′      points_sum
 --   points-room                    the least length of the slice for points
@@ -44,12 +45,14 @@ abbrev pub pairs-stages : (c : List ℕ) → List Pair → List Stage
 pairs-stages c [] = []
 pairs-stages c (q ∷ qs) = pair-stages c q ++ pairs-stages c qs
 
--- 14: "an odd count of numbers or more than 4,096 pairs for the first, after the curve's checks"; "the sum of their kind 11 records, the
--- zero class for no pairs".
+-- "an odd count of numbers or more than 4,096 pairs for the first"
+abbrev pub numbers-stage : List ℕ → Stage
+numbers-stage ns = must 14 ((length ns % 2 ≡ 0) × (length ns ≤ 2 * pairs-limit))
+
+-- "gives the sum of their kind 11 records, the zero class for no pairs"; 14 "after the curve's checks"
 abbrev pub PointsSum : (c ns out : List ℕ) → ℤ → List ℕ → Type 0
 PointsSum c ns out =
-    Writes room (curve-stages c ++ must 14 ((length ns % 2 ≡ 0) × (length ns ≤ 2 * pairs-limit)) ∷ pairs-stages c (pairs ns))
-    (IsListSum c (map (point-record c) (pairs ns))) out
+    Writes room (curve-stages c ++ numbers-stage ns ∷ pairs-stages c (pairs ns)) (IsListSum c (map (point-record c) (pairs ns))) out
 
 -- "a lent slice of six 32-bit numbers or more; a shorter one is refused with 10"
 abbrev pub points-room : ℕ

@@ -1,0 +1,2 @@
+-- Why the calls on points answer what they answer.
+pub mod Walk

@@ -1,0 +1,1 @@
+-- The contracts of the calls on points are those of crate point.
