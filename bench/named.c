@@ -1,5 +1,7 @@
-/* The calls of calls.c under the library's names, so that tests/vectors.c makes them in place of the archive's. */
+/* The calls of calls.c and points_calls.c under the library's names, so that tests/vectors.c and tests/points.c make them
+   in place of the archives'. */
 #include "calls.c"
+#include "points_calls.c"
 
 typedef const uint8_t *bytes;
 
@@ -51,4 +53,14 @@ int32_t c34_count(bytes c, size_t nc, bytes list, size_t n, uint32_t kind)
 int32_t c34_reduce_curve(bytes fractions, size_t n, uint32_t p, uint8_t *out, size_t room)
 {
     return base_reduce_curve(fractions, n, p, out, room);
+}
+
+int32_t bench_points_sum(bytes c, size_t nc, const uint32_t *points, size_t n, uint8_t *out, size_t room)
+{
+    return base_points_sum(c, nc, points, n, out, room);
+}
+
+int32_t bench_points_of(bytes c, size_t nc, bytes a, size_t na, uint32_t *out, size_t room)
+{
+    return base_points_of(c, nc, a, na, out, room);
 }

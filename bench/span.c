@@ -164,6 +164,18 @@ int closed(const struct curve *c, const uint32_t t[3][26], const unsigned d[3])
     return 1;
 }
 
+int inside(uint32_t p, const uint32_t t[3][26], const unsigned d[3], const uint32_t s[3][26], const unsigned e[3])
+{
+    for (unsigned j = 0; j < 3; j++) {
+        uint32_t v[26];
+        copy(t[j], v);
+        reduce(p, s, e, v, d[j] + 1);
+        if (!is_zero(v, d[j] + 1))
+            return 0;
+    }
+    return 1;
+}
+
 /* Inserts b times each member of a triple of degrees d2, from the members' y-multiples, for monic b of degree db. */
 static void insert_products(uint32_t p, uint32_t t[3][26], unsigned d[3], const uint32_t b[26], unsigned db,
                             const uint32_t ys[3][3][26], const unsigned d2[3])

@@ -22,7 +22,10 @@ enum verb {
     COMPARE,
     COUNT,
     REDUCE_CURVE,
-    VERBS
+    VERBS, /* those before are calls of libc34.a, those after of the archive of bench_points */
+    POINTS_SUM,
+    POINTS_OF,
+    ALL_VERBS
 };
 
 struct slice {
@@ -33,16 +36,16 @@ struct slice {
 struct call {
     enum verb verb;
     struct slice curve; /* for REDUCE_CURVE the fractions */
-    struct slice a;     /* the divisor, the first divisor or the list */
+    struct slice a;     /* the divisor, the first divisor or the list; for POINTS_SUM the numbers */
     struct slice b;     /* the second divisor, for SUM and COMPARE */
     int64_t n;          /* for MULTIPLE */
     uint32_t kind;      /* for COUNT */
     uint32_t p;         /* for REDUCE_CURVE */
-    uint8_t *out;       /* the result buffer of the verbs that write */
-    size_t out_len;
+    uint8_t *out;       /* the result buffer of the verbs that write; for POINTS_OF the slice of numbers */
+    size_t out_len;     /* in bytes, as all lengths here */
 };
 
-extern const char *const verb_name[VERBS];
+extern const char *const verb_name[ALL_VERBS];
 
 int writes(enum verb verb);
 int takes_list(enum verb verb);

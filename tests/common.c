@@ -3,8 +3,8 @@
 #include <stdio.h>
 #include <stdlib.h>
 
-const char *const verb_name[VERBS] = {"curve", "divisor", "sum", "double", "neg",
-                                      "mul",   "lsum",    "cmp", "count",  "frac"};
+const char *const verb_name[ALL_VERBS] = {"curve", "divisor", "sum",  "double", "neg", "mul", "lsum",
+                                          "cmp",   "count",   "frac", "",       "psum", "points"};
 
 int writes(enum verb verb)
 {
@@ -34,9 +34,12 @@ size_t least_buffer(enum verb verb)
     case NEGATIVE:
     case MULTIPLE:
     case LIST_SUM:
+    case POINTS_SUM:
         return 40;
     case REDUCE_CURVE:
         return 44;
+    case POINTS_OF:
+        return 24;
     default:
         return 0;
     }

@@ -134,8 +134,7 @@ static void window(const struct curve *k, uint32_t (*v)[WIDTH], unsigned count, 
 
 enum { RECORD_TOP = 12 }; /* a record's ideal has elements of pole numbers 6 or 3 or 0, 7 or 4, and 8 */
 
-/* The polynomials of a record; their number is returned. */
-static unsigned polynomials(const uint8_t *record, uint32_t v[3][WIDTH])
+unsigned polynomials(const uint8_t *record, uint32_t v[3][WIDTH])
 {
     static const unsigned lead_of[5][3] = {{0}, {3, 4}, {4, 6}, {3, 8}, {6, 7, 8}};
     static const unsigned count[5] = {1, 2, 2, 2, 3};
@@ -294,4 +293,37 @@ struct ideal reduced(const struct curve *k, const struct ideal *a)
 {
     struct ideal b = star(k, a);
     return star(k, &b);
+}
+
+/* ---- powers ---- */
+
+static unsigned highest(const struct ideal *a)
+{
+    unsigned n = a->pole[0] > a->pole[1] ? a->pole[0] : a->pole[1];
+    return a->pole[2] > n ? a->pole[2] : n;
+}
+
+/* 1 if a lies inside b: the generators of a are in b's window. */
+static int lies_inside(const struct curve *k, const struct ideal *a, const struct ideal *b)
+{
+    unsigned top = highest(a) > highest(b) ? highest(a) : highest(b);
+    uint32_t gen[3][WIDTH];
+    struct space s;
+    memcpy(gen, b->g, sizeof gen);
+    window(k, gen, 3, top + 4, &s);
+    for (unsigned j = 0; j < 3; j++)
+        if (insert(&s, a->g[j]))
+            return 0;
+    return 1;
+}
+
+unsigned multiplicity(const struct curve *k, const struct ideal *a, const struct ideal *point)
+{
+    struct ideal power = *point;
+    unsigned n = 0;
+    while (lies_inside(k, a, &power)) {
+        power = product(k, &power, point);
+        n++;
+    }
+    return n;
 }

@@ -11,8 +11,12 @@
    product, star   J K and J*
    reduced         (J*)*
    record_of       the record of a reduced ideal
+   polynomials     those of a record; their number is returned
+   on_curve        1 if F is 0 at the pair
+   multiplicity    the largest n for which an ideal lies inside the n-th power of another, that of a point
+   put_point       the record of kind 11 of a pair; its length is returned
    refusal_of      the number of the refusal of a call, 0 if it is accepted
-   answer_of       what an accepted call returns; its result buffer is filled
+   answer_of       what an accepted call returns; its result buffer is filled, by POINTS_OF in rising order
    by_definition   both together */
 #ifndef INDEPENDENT_H
 #define INDEPENDENT_H
@@ -41,6 +45,14 @@ struct ideal product(const struct curve *k, const struct ideal *a, const struct 
 struct ideal star(const struct curve *k, const struct ideal *a);
 struct ideal reduced(const struct curve *k, const struct ideal *a);
 size_t record_of(const struct curve *k, const struct ideal *a, uint8_t *record);
+
+unsigned polynomials(const uint8_t *record, uint32_t v[3][WIDTH]);
+int on_curve(const struct curve *k, uint32_t x, uint32_t y);
+unsigned multiplicity(const struct curve *k, const struct ideal *a, const struct ideal *point);
+size_t put_point(const struct curve *k, uint32_t x, uint32_t y, uint8_t *record);
+
+/* The points of POINTS_OF come in rising order; all pairs are tried, so p must be small. */
+enum { TRIED = 2000 };
 
 struct curve curve_of(const uint8_t *record);
 int32_t refusal_of(const struct call *c);

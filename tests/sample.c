@@ -39,8 +39,7 @@ static uint32_t value(const struct curve *k, uint32_t x, uint32_t y, int from)
 static struct record point_record(const struct curve *k, uint32_t x, uint32_t y)
 {
     struct record r;
-    uint32_t numbers[2] = {minus(k->p, 0, x), minus(k->p, 0, y)};
-    r.len = put_record(r.b, C34_KIND_11, numbers);
+    r.len = put_point(k, x, y, r.b);
     return r;
 }
 

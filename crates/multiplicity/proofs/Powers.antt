@@ -13,8 +13,9 @@ use borrow.Author.Tests.{not-true, not-false}
 use Rattle.algebra.specs.Ring.{CommRing}
 use Rattle.ideal.specs.Ideal.{IsIdeal, SameIdeal, Product}
 use Rattle.ideal.proofs.Same.{same-refl, same-sym, same-trans}
-use Rattle.ideal.proofs.Product.{product-same, product-comm, product-unit}
+use Rattle.ideal.proofs.Product.{product-same}
 use Rattle.powers.specs.Power.{Power, Inside}
+use Rattle.powers.proofs.Powers.{power-one}
 use Rattle.triple.specs.Setting.{ring, Ready}
 use Rattle.triple.specs.Triple.{Spanned}
 use Rattle.span.specs.Contract.{Small}
@@ -31,7 +32,7 @@ module _ {p : ℕ} {y3 : List ℕ} {u : List (List ℕ)} where
   pub power-first : IsPower p y3 u u 1
   power-first =
       record {
-        same = λ R i. same-sym (ring (R .setting)) (same-trans (ring (R .setting)) (product-comm (ring (R .setting))) (product-unit (ring (R .setting)) i));
+        same = λ R i. same-sym (ring (R .setting)) (power-one (ring (R .setting)) i);
       }
 
   pub power-next : {s w : List (List ℕ)} {d : List ℕ} {k : ℕ} → Multiplied p y3 u s w d → IsPower p y3 u s k → IsPower p y3 u w (suc k)

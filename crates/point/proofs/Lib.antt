@@ -2,3 +2,7 @@
 pub mod OnCurve
 pub mod Vanish
 pub mod Records
+pub mod Times
+pub mod Coordinates
+pub mod Degree
+pub mod Determined

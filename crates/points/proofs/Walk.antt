@@ -9,10 +9,9 @@
 use mathlib.Core.Path.{_≡_, refl, sym, _∙_, ap, subst}
 use mathlib.Core.Logic.{inl, inr}
 use mathlib.Core.List.{List, [], _∷_, _++_, map, append-nil, append-assoc}
-use Prim.Native.Nat.{ℕ, suc, _+_, _-_, _%_, _<_, _≤_}
+use Prim.Native.Nat.{ℕ, _+_, _-_, _%_, _<_, _≤_}
 use native.Mathlib.Omega.{arith}
 use lib.ListN.{length, getD, drop, length-drop}
-use lib.Seq.{drop-cons}
 use Rattle.ground.specs.declared.Ground.{Ground}
 use Rattle.basis.specs.declared.Divisor.{Divisor}
 use Rattle.group.specs.Contract.{ZeroClass, SumAsked, SumOf}
@@ -30,19 +29,8 @@ use Rattle.lists.proofs.Next.{found-next}
 use Rattle.point.specs.Point.{Pair, Point, point-record}
 use Rattle.point.specs.PointCall.{pairs, numbers-stage, pair-stages, pairs-stages}
 use Rattle.point.proofs.Records.{point-accepted}
+use Rattle.point.proofs.Coordinates.{two-left}
 use Rattle.pair.specs.Contract.{PairRead}
-
-two-left : (ns : List ℕ) (at : ℕ) → 1 < length ns - at → drop at ns ≡ getD ns at 0 ∷ getD ns (at + 1) 0 ∷ drop (at + 2) ns
-two-left ns at l =
-    drop-cons ns at 0 (omega arith)
-    ∙ ap (λ (t : List ℕ). getD ns at 0 ∷ t)
-    (sym (ap (λ (k : ℕ). drop k ns) one) ∙ drop-cons ns (at + 1) 0 (omega arith) ∙ ap (λ (k : ℕ). getD ns (at + 1) 0 ∷ drop k ns) two)
-  where
-    one : at + 1 ≡ suc at
-    one = omega arith
-
-    two : suc (at + 1) ≡ at + 2
-    two = omega arith
 
 pairs-next : (ns : List ℕ) (at : ℕ) → 1 < length ns - at → pairs (drop at ns) ≡ (getD ns at 0, getD ns (at + 1) 0) ∷ pairs (drop (at + 2) ns)
 pairs-next ns at l = ap pairs (two-left ns at l)

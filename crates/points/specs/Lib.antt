@@ -1,1 +1,2 @@
--- The contracts of the calls on points are those of crate point.
+-- What the functions below the calls on points ensure; the calls' own contracts are those of crate point.
+pub mod Contract

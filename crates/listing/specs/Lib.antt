@@ -1,0 +1,2 @@
+-- What the functions that list the points of a divisor require and ensure.
+pub mod Contract

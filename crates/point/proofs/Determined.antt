@@ -1,0 +1,163 @@
+-- The contracts of the calls on points fix the answer, but for the order of the pairs that points_of writes.
+--   multiplicity-one           a point has one multiplicity
+--   SameTimes ps qs            every pair stands equally often in ps and in qs
+--   point-dec                  it is decidable whether a pair is a point
+--   points-same                two lists of the points of a divisor have every pair equally often
+--   Removed q qs, removed      qs with one q taken out, for a pair q that stands in qs
+--   times-length               lists that have every pair equally often are of the same length
+--   points-length              … so are two lists of the points of a divisor
+--   pairs-sound, points-stages-sound   what the calls check refuses nothing that it passes, and with one number only
+--   passed-points              pairs that pass their checks are points
+--   points-accepted            the records of points are accepted
+--   points-sum-determined      points_sum: what is returned and what the buffer then holds
+--   BothPoints c d out r out′ out″     two answers of points_of, r returned, out′ and out″ left: both refused for one cause, with the
+--                              slice as it was; or both written, with lists of the divisor's points that have every pair equally often
+--   points-of-determined       points_of: what is returned, and what the slice then holds but for the order of the pairs
+-- times-length is by induction on ps: its first pair stands in qs; taken out of both, it leaves lists that have every pair equally often.
+-- points-same: at a point both numbers are its multiplicity, and a pair that is no point stands in neither list.
+-- The calls: what they check gives one cause (crate record, proofs/Cause), and a list sum is one record (crate calls, list-one).
+use mathlib.Core.Path.{_≡_, refl, sym, _∙_, ap}
+use mathlib.Core.List.{List, [], _∷_, _++_, map}
+use Prim.Native.Nat.{ℕ, suc, _*_, _<_}
+use native.Mathlib.Decide.{decLe}
+use native.Mathlib.Omega.{arith}
+use lib.ListN.{length, drop}
+use lib.IntN.{ℤ, pos}
+use Rattle.field.proofs.Element.{Z-discrete}
+use Rattle.record.specs.Cause.{Stage, must, FirstCause, Passes}
+use Rattle.record.specs.Curve.{modulus, curve-stages, AcceptedCurve}
+use Rattle.record.proofs.Cause.{AllSound, sound-must, passes-refuses, one-cause, passes-append}
+use Rattle.record.proofs.Lists.{curve-sound}
+use Rattle.calls.specs.Answer.{minus, buffer}
+use Rattle.calls.specs.Class.{IsListSum}
+use Rattle.calls.specs.Call.{room, divisor-of}
+use Rattle.calls.proofs.Class.{AcceptedRow}
+use Rattle.calls.proofs.Multiples.{list-one}
+use Rattle.calls.proofs.Answers.{sound-append, divisor-stages-sound, writes-one}
+use Rattle.point.specs.Point.{Pair, OnCurve, Point, point-record, IsMultiplicity, times, AllPoints, IsPoints}
+use Rattle.point.specs.PointCall.{pairs, coordinates, numbers-stage, pairs-stages, PointsSum, points-room, points-stages, PointsOf, refused, written}
+use Rattle.point.proofs.Times.{same-pair, times-none, times-here, times-other, times-off}
+use Rattle.point.proofs.Records.{point-accepted}
+
+pub multiplicity-one : (c d : List ℕ) (q : Pair) (k j : ℕ) → IsMultiplicity c d q k → IsMultiplicity c d q j → k ≡ j
+multiplicity-one c d q k j h h′ = omega (arith, h .largest j (h′ .inside), h′ .largest k (h .inside))
+
+abbrev pub SameTimes : List Pair → List Pair → Type 0
+SameTimes ps qs = (q : Pair) → times q ps ≡ times q qs
+
+pub point-dec : (c : List ℕ) (q : Pair) → Dec (Point c q)
+point-dec c (a, b) = go (decLe (suc a) (modulus c)) (decLe (suc b) (modulus c)) (Z-discrete (modulus c) _ _)
+  where
+    go : Dec (a < modulus c) → Dec (b < modulus c) → Dec (OnCurve c (a, b)) → Dec (Point c (a, b))
+    go (yes l) (yes m) (yes e) = yes ((l, m), e)
+    go (yes l) (yes m) (no n) = no (λ g. n (g .1))
+    go (yes l) (no n) e = no (λ g. n (g .0 .1))
+    go (no n) m e = no (λ g. n (g .0 .0))
+
+pub points-same : (c d : List ℕ) (ps qs : List Pair) → IsPoints c d ps → IsPoints c d qs → SameTimes ps qs
+points-same c d ps qs h h′ q = go (point-dec c q)
+  where
+    go : Dec (Point c q) → times q ps ≡ times q qs
+    go (yes g) = multiplicity-one c d q (times q ps) (times q qs) (h .often q g) (h′ .often q g)
+    go (no n) = times-off c q ps n (h .points) ∙ sym (times-off c q qs n (h′ .points))
+
+-- One pair more at the start of two lists, two pairs in either order, and one pair less.
+times-more : (s r : Pair) (ps qs : List Pair) → times s ps ≡ times s qs → times s (r ∷ ps) ≡ times s (r ∷ qs)
+times-more (a, b) (a′, b′) ps qs e = omega (arith, e)
+
+times-swap : (s q r : Pair) (ps : List Pair) → times s (r ∷ q ∷ ps) ≡ times s (q ∷ r ∷ ps)
+times-swap (a, b) (a′, b′) (a″, b″) ps = omega arith
+
+times-less : (s q : Pair) (ps qs : List Pair) → times s (q ∷ ps) ≡ times s (q ∷ qs) → times s ps ≡ times s qs
+times-less (a, b) (a′, b′) ps qs e = omega (arith, e)
+
+pub record Removed (q : Pair) (qs : List Pair) : Type 0 where
+  pub rest : List Pair
+  pub long : length qs ≡ suc (length rest)
+  pub same : SameTimes qs (q ∷ rest)
+
+pub removed : (q : Pair) (qs : List Pair) → ¬ (times q qs ≡ 0) → Removed q qs
+removed q [] n = absurd (n (times-none q))
+removed q (r ∷ qs) n = go (same-pair q r) (removed q qs)
+  where
+    go : Dec (q ≡ r) → (¬ (times q qs ≡ 0) → Removed q qs) → Removed q (r ∷ qs)
+    go (yes e) next = record { rest = qs; long = refl; same = λ s. ap (λ (t : Pair). times s (t ∷ qs)) (sym e) }
+    go (no d) next = more (next (λ e. n (times-other q r qs d ∙ e)))
+      where
+        more : Removed q qs → Removed q (r ∷ qs)
+        more h = record {
+          rest = r ∷ h .rest;
+          long = ap suc (h .long);
+          same = λ s. times-more s r qs (q ∷ h .rest) (h .same s) ∙ times-swap s q r (h .rest);
+        }
+
+zero-suc : {n : ℕ} → 0 ≡ suc n → ⊥
+zero-suc e = omega (arith, e)
+
+pub times-length : (ps qs : List Pair) → SameTimes ps qs → length ps ≡ length qs
+times-length [] [] e = refl
+times-length [] (q ∷ qs) e = absurd (zero-suc (sym (times-none q) ∙ e q ∙ times-here q qs))
+times-length (p ∷ ps) qs e = go (removed p qs (λ z. zero-suc (sym z ∙ sym (e p) ∙ times-here p ps))) (times-length ps)
+  where
+    go : Removed p qs → ((rs : List Pair) → SameTimes ps rs → length ps ≡ length rs) → suc (length ps) ≡ length qs
+    go h next = ap suc (next (h .rest) (λ s. times-less s p ps (h .rest) (e s ∙ h .same s))) ∙ sym (h .long)
+
+pub points-length : (c d : List ℕ) (ps qs : List Pair) → IsPoints c d ps → IsPoints c d qs → length ps ≡ length qs
+points-length c d ps qs h h′ = times-length ps qs (points-same c d ps qs h h′)
+
+module _ (c : List ℕ) where
+  pub pairs-sound : (qs : List Pair) → AllSound (pairs-stages c qs)
+  pairs-sound [] = tt
+  pairs-sound (q ∷ qs) = (sound-must _ _, (sound-must _ _, pairs-sound qs))
+
+  pub passed-points : (qs : List Pair) → Passes (pairs-stages c qs) → AllPoints c qs
+  passed-points [] _ = tt
+  passed-points (q ∷ qs) (f, (o, rest)) = ((f, o), passed-points qs rest)
+
+  pub points-accepted : AcceptedCurve c → (qs : List Pair) → AllPoints c qs → AcceptedRow c (map (point-record c) qs)
+  points-accepted A [] _ = tt
+  points-accepted A (q ∷ qs) (g, gs) = (point-accepted c A q (g .1) .1, points-accepted A qs gs)
+
+  pub points-sum-determined : (ns out : List ℕ) (r s : ℤ) (out′ out″ : List ℕ) → PointsSum c ns out r out′ → PointsSum c ns out s out″
+      → (r ≡ s) × (out′ ≡ out″)
+  points-sum-determined ns out r s out′ out″ =
+      writes-one (curve-stages c ++ checks) (sound-append (curve-stages c) checks (curve-sound c) (sound-must _ _, pairs-sound (pairs ns))) room out one
+    where
+      checks : List Stage
+      checks = numbers-stage ns ∷ pairs-stages c (pairs ns)
+
+      one : (w w′ : List ℕ) → Passes (curve-stages c ++ checks) → IsListSum c (map (point-record c) (pairs ns)) w
+          → IsListSum c (map (point-record c) (pairs ns)) w′ → w ≡ w′
+      one w w′ passed = go (passes-append (curve-stages c) checks .0 passed)
+        where
+          go : Passes (curve-stages c) × Passes checks → IsListSum c (map (point-record c) (pairs ns)) w
+              → IsListSum c (map (point-record c) (pairs ns)) w′ → w ≡ w′
+          go (A, (_, h)) = list-one c A (map (point-record c) (pairs ns)) w w′ (points-accepted A (pairs ns) (passed-points (pairs ns) h))
+
+pub points-stages-sound : (c d out : List ℕ) → AllSound (points-stages c d out)
+points-stages-sound c d out =
+    sound-append (curve-stages c) (must 14 _ ∷ divisor-of c d ++ buffer points-room out) (curve-sound c)
+    (sound-must _ _, sound-append (divisor-of c d) (buffer points-room out) (divisor-stages-sound c d) (sound-must _ _, tt))
+
+-- "every order has the same pairs, each as often as its multiplicity"
+pub data BothPoints (c d out : List ℕ) (r : ℤ) (out′ out″ : List ℕ) : Type 0 where
+  both-refused : (n : ℕ) → FirstCause (points-stages c d out) n → r ≡ minus n → out′ ≡ out → out″ ≡ out → BothPoints c d out r out′ out″
+  both-written : (ps qs : List Pair) → IsPoints c d ps → IsPoints c d qs → SameTimes ps qs → length ps ≡ length qs → r ≡ pos (length ps)
+      → out′ ≡ coordinates ps ++ drop (2 * length ps) out → out″ ≡ coordinates qs ++ drop (2 * length ps) out
+      → BothPoints c d out r out′ out″
+
+pub points-of-determined : (c d out : List ℕ) (r s : ℤ) (out′ out″ : List ℕ) → PointsOf c d out r out′ → PointsOf c d out s out″
+    → (r ≡ s) × BothPoints c d out r out′ out″
+points-of-determined c d out r s out′ out″ (refused n f e q) (refused m g e′ q′) = (
+  e ∙ ap minus (one-cause (points-stages c d out) (points-stages-sound c d out) n m f g) ∙ sym e′,
+  both-refused n f e q q′,
+)
+points-of-determined c d out r s out′ out″ (refused n f e q) (written ps p h e′ q′) =
+    absurd (passes-refuses (points-stages c d out) (points-stages-sound c d out) p n f)
+points-of-determined c d out r s out′ out″ (written ps p h e q) (refused n f e′ q′) =
+    absurd (passes-refuses (points-stages c d out) (points-stages-sound c d out) p n f)
+points-of-determined c d out r s out′ out″ (written ps p h e q) (written qs p′ h′ e′ q′) =
+    let same : length ps ≡ length qs = points-length c d ps qs h h′ in (
+      e ∙ ap pos same ∙ sym e′,
+      both-written ps qs h h′ (points-same c d ps qs h h′) same e q (q′ ∙ ap (λ (n : ℕ). coordinates qs ++ drop (2 * n) out) (sym same)),
+    )
