@@ -1,2 +1,3 @@
 -- Why the calls on points answer what they answer.
 pub mod Walk
+pub mod Found
