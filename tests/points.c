@@ -1,12 +1,12 @@
-/* The two calls on points, by the archive of the crate bench_points: points [ACCEPTED]. Every slice ends at a page that
-   cannot be read or written, or starts after one.
+/* The two calls on points, by the archive of the crate bench_points: points [ROUNDS]. Every slice ends at a page that
+   cannot be read or written, or starts after one; what is only read cannot be written.
 
-   Refusals: every truncation and lengthening of curve and divisor, every count of numbers up to 12 and around the
-   limit, slices of 0 to 7 numbers, buffers of 0 to 41 bytes, numbers at the borders, every set of causes for a refusal;
-   against the independent implementation.
-   Answers: ACCEPTED rounds of random sums of points and of points of random records. For small p the points of a record
-   are found by trying all pairs, and their multiplicities by powers of ideals. At p = 65521 they are found by the
-   record's polynomials, and are those that the record was made of.
+   Refusals: every truncation of curve and divisor and some lengthenings, every count of numbers up to 12 and around the
+   limit, slices of 0 to 7 numbers, buffers of 0 to 41 bytes, numbers and kinds at the borders, sets of causes for a
+   refusal; against the independent implementation.
+   Answers: so many rounds of random sums of points and of points of random records. For small p the points of a record
+   are found by trying all pairs, for every p by the zeros of the record's polynomials; their multiplicities by powers of
+   ideals. A sum of at most three points, where no fewer give it, has these points.
    Round trips: where a record has as many points as its degree, their sum is the record. */
 #include "pages.h"
 #include "sample.h"
@@ -112,7 +112,7 @@ static void random_points(const struct sample *s, uint32_t *n, size_t pairs)
         coordinates(s, (from + random_below(among)) % s->points, n + 2 * i);
 }
 
-/* A pair below p that is not on the curve; 0 if there is none by luck. */
+/* A pair below p that is not on the curve; 0 if none is found. */
 static int off_curve(const struct curve *k, uint32_t q[2])
 {
     for (int tries = 0; tries < 200; tries++) {
@@ -126,10 +126,11 @@ static int off_curve(const struct curve *k, uint32_t q[2])
 
 /* ---- refusals ---- */
 
-/* Every shorter slice and some longer ones, with the length field as it was and set to the new length. */
+/* Every shorter slice and some longer ones, with the length field as it was and set to the new length; and 65,536 bytes
+   more, where the field is right but for what it cannot hold. s is a slice of the call. */
 static void vary_length(const struct call *given, struct slice *s)
 {
-    uint8_t b[C34_CURVE_LENGTH + 8];
+    static uint8_t b[C34_CURVE_LENGTH + 65536];
     struct slice old = *s;
     for (size_t n = 0; n <= old.len + 8; n++)
         for (int field = 0; field < 2; field++) {
@@ -140,10 +141,13 @@ static void vary_length(const struct call *given, struct slice *s)
             *s = (struct slice){b, n};
             check(given);
         }
+    memcpy(b, old.at, old.len);
+    *s = (struct slice){b, old.len + 65536};
+    check(given);
     *s = old;
 }
 
-/* Each number of a record in turn at the borders of what is accepted, and every kind. */
+/* Each number of a record in turn at the borders of what is accepted, and every kind. s is a slice of the call. */
 static void vary_numbers(const struct call *given, struct slice *s, uint32_t p)
 {
     const uint32_t value[] = {0, 1, p - 1, p, p + 1, 65521, 65537, 0x7FFFFFFF, 0xFFFFFFFF};
@@ -264,8 +268,7 @@ static void points_causes(const struct sample *s)
                 put32(r.b + 4 + 4 * random_below((uint32_t)r.len / 4 - 1), causes & 2 ? 65537 : s->k.p);
             if (causes & 32)
                 c.out_len = 4 * random_below(6);
-            if (!(causes & 1) || c.curve.len > 0)
-                check(&c);
+            check(&c);
         }
 }
 
@@ -494,6 +497,9 @@ static void run_large(uint32_t p)
 {
     static struct sample s;
     make_sample(&s, p, 12);
+    vary_points(&s);
+    vary_count(&s);
+    sum_causes(&s);
     for (unsigned i = 0; i < s.records; i++) {
         struct call c = points_call(&s, &s.record[i]);
         require(check(&c) == -14, "a large modulus is not refused", &c);
@@ -508,6 +514,8 @@ int main(int argc, char **argv)
     make_pages();
     for (int i = 0; i < 3; i++)
         run_refusals(few[i]);
+    for (int i = 0; i < 2; i++)
+        run_large(large[i]);
     printf("points: %ld sums and %ld lists of points between guard pages agree; refused by number 1 to %d:",
            made[POINTS_SUM], made[POINTS_OF], REFUSALS);
     for (int e = 1; e <= REFUSALS; e++)
@@ -519,10 +527,8 @@ int main(int argc, char **argv)
     for (int i = 0; i < 7; i++)
         run_answers(small[i], small[i] < 100 ? 4 * rounds : rounds, RECORDS);
     run_answers(LAST_SCANNED, rounds, 8);
-    for (int i = 0; i < 2; i++) {
+    for (int i = 0; i < 2; i++)
         run_answers(large[i], rounds, 4);
-        run_large(large[i]);
-    }
     printf("points: %ld random sums and %ld lists agree, %ld lists with a point twice, %ld thrice; %ld round trips\n",
            made[POINTS_SUM], made[POINTS_OF], doubles, triples, trips);
     require(doubles > 0 && triples > 0 && trips > 0, "a case was never met", NULL);

@@ -1,12 +1,12 @@
 -- What read_pair finds of a pair, on every curve with the ground g.
---   first-outside, second-outside      a coordinate is not below p
+--   pair-outside           a coordinate is not below p
 --   pair-asked             the record of the pair may be tested
 --   pair-off, pair-on      … and is no basis: the pair is off the curve; or is one: it is a point
 use mathlib.Core.Path.{_≡_, refl, sym, _∙_, ap, ap₂, subst}
-use mathlib.Core.Logic.{inl, inr}
+use mathlib.Core.Logic.{_↔_, inl, inr}
 use mathlib.Core.Bool.{Bool, true, false}
 use mathlib.Core.List.{List}
-use Prim.Native.Nat.{ℕ, _<_, _≤_}
+use Prim.Native.Nat.{ℕ, _<_}
 use native.Mathlib.Omega.{arith}
 use Rattle.algebra.specs.Ring.{CommRing}
 use Rattle.algebra.specs.Answers.{Answers}
@@ -28,11 +28,14 @@ use Rattle.point.proofs.Records.{point-value, point-bytes, point-shaped, point-
 use Rattle.pair.specs.Contract.{PairRead}
 
 module _ {g : Ground} (a b : ℕ) where
-  pub first-outside : g .p ≤ a → OnCurves g (λ c. PairRead c (a, b) (answer.Refused 8))
-  first-outside l c o = inl (λ h. omega (arith, h .0, o .ground .modulus), refl)
+  at-ground : OnCurves g (λ c. InField c (a, b) ↔ ((a < g .p) × (b < g .p)))
+  at-ground c o = (
+    λ h. (omega (arith, h .0, o .ground .modulus), omega (arith, h .1, o .ground .modulus)),
+    λ h. (omega (arith, h .0, o .ground .modulus), omega (arith, h .1, o .ground .modulus)),
+  )
 
-  pub second-outside : g .p ≤ b → OnCurves g (λ c. PairRead c (a, b) (answer.Refused 8))
-  second-outside l c o = inl (λ h. omega (arith, h .1, o .ground .modulus), refl)
+  pub pair-outside : ¬ ((a < g .p) × (b < g .p)) → OnCurves g (λ c. PairRead c (a, b) (answer.Refused 8))
+  pair-outside n c o = inl (λ h. n (at-ground c o .0 h), refl)
 
   module _ {f0 g0 : ℕ} (is-f : Is (g .p) f0 (Z (g .p) .neg (el (g .p) a))) (is-g : Is (g .p) g0 (Z (g .p) .neg (el (g .p) b))) {x : Divisor} (is-x : x ≡ of-four 11 f0 g0 0 0) where
     -- the divisor is that of the point by value
@@ -51,14 +54,14 @@ module _ {g : Ground} (a b : ℕ) where
         subst (λ (h : Ground). BasisAsked (h .p) (h .cube) x) (sym (ground-is o))
         (record { ready = grounded-at o .ready; kind = k11; shaped = shaped c o })
 
-    module _ {t : Bool} (test : BasisTest (g .p) (g .cube) x t) (in-a : a < g .p) (in-b : b < g .p) where
+    module _ {t : Bool} (test : BasisTest (g .p) (g .cube) x t) (in-field : (a < g .p) × (b < g .p)) where
       tested : (c : List ℕ) (o : On c g) → Answers (IsBasis (equation c) k11 (residues (modulus c) (point-value c (a, b)))) t
       tested c o =
           subst (λ (y : Divisor). Answers (IsBasis (equation c) k11 (residues (modulus c) y)) t) (value-is c o)
           (subst (λ (h : Ground). BasisTest (h .p) (h .cube) x t) (ground-is o) test (grounded-at o .ready) k11 (shaped c o))
 
       inside : (c : List ℕ) (o : On c g) → InField c (a, b)
-      inside c o = (omega (arith, in-a, o .ground .modulus), omega (arith, in-b, o .ground .modulus))
+      inside c o = at-ground c o .1 in-field
 
       pub pair-off : t ≡ false → OnCurves g (λ c. PairRead c (a, b) (answer.Refused 9))
       pair-off e c o = inr (inside c o, inl (λ h. tested c o .fails e (point-basis c (o .accepted) (a, b) h), refl))

@@ -25,12 +25,12 @@ stands-requires : tie.Need-stands-requires Inv-loop μ-loop
 stands-requires c κs = c .before .before .before .before .before .before .pre .stands
 
 put-requires : tie.Need-put-requires Inv-loop μ-loop
-put-requires c κs = 
+put-requires c κs =
     let start = c .before .before .before .before .before .before .before .before in
     put-asked (start .pre .stands .divided) (start .pre .room) (c .before .before .before .before .loop .inv .reached (start .pre .first) (start .pre .reached)) (c .before .stands .ensures)
 
 add-m : tie.Need-add-m Inv-loop μ-loop
-add-m c = 
+add-m c =
     let start = c .before .before .before .before .before .before .before .before .before .before .before in
     omega (arith, put-most (start .pre .stands .divided) (c .before .before .before .before .before .before .before .loop .inv .reached (start .pre .first) (start .pre .reached)) (c .before .before .before .before .stands .ensures))
 
@@ -47,7 +47,7 @@ loop-again : tie.Need-loop-again Inv-loop μ-loop
 loop-again c = line-next (c .before .before .before .before .before .before .before .before .loop .inv) (c .before .before .before .before .before .before .before .before .before .before .in-y .ensures) (c .before .before .before .before .before .stands .ensures) (c .before .before .before .put .ensures) (c .root-from2 .ensures)
 
 same-length : tie.Need-same-length Inv-loop μ-loop
-same-length c = 
+same-length c =
     let start = c .before .before .before .before .before .before in
     let last = c .before .before .loop .inv .reached (start .pre .first) (start .pre .reached) in
     reached-length (start .pre .stands .divided) (start .pre .room) last ∙ sym (reached-length (start .pre .stands .divided) (start .pre .room) (start .pre .reached))

@@ -27,7 +27,7 @@ loop-holds : tie.Need-loop-holds Inv-loop μ-loop
 loop-holds c = (c .root-from .ensures .most, reached-lines (reached-start (now (c .before .before .before .before .before .before .args .out))) (c .before .in-x .ensures) (c .root-from .ensures))
 
 list-at-requires : tie.Need-list-at-requires Inv-loop μ-loop
-list-at-requires c κs = 
+list-at-requires c κs =
     let start = c .before .before .before .before .before .before .before .before .before .before .before .before in
     record {
       stands = record { divided = start .pre .divided; triple = c .before .before .before .before .before .before .before .before .triple-of .ensures };

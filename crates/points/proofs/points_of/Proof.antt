@@ -19,7 +19,7 @@ refusal-requires : tie.Need-refusal-requires
 refusal-requires c κs = search needs
 
 returns : tie.Need-returns
-returns c = 
+returns c =
     let start = c .before .before .before .before .before .before .before .before .before .before in
     let k = now (start .args .curve) in
     let read = c .before .before .before .before .before .before .read-curve in
@@ -28,12 +28,12 @@ returns c =
     (omega (arith, c .before .if1 .taken, curve-modulus k (read .result) (read .ensures) _ is)) (kept (c .refusal .result) (c .refusal .ok) ∙ c .refusal .ensures)
 
 of-requires : tie.Need-of-requires
-of-requires c κs = 
+of-requires c κs =
     let read = c .before .before .before .before .before .read-curve in
     curve-asked (now (c .before .before .before .before .before .before .before .before .before .args .curve)) (read .result) (read .ensures) _ (c .before .before .before .read .given .1)
 
 points-on-requires : tie.Need-points-on-requires
-points-on-requires c κs = 
+points-on-requires c κs =
     let k = now (c .before .before .before .before .before .before .before .before .before .before .before .args .curve) in
     let read = c .before .before .before .before .before .before .before .read-curve in
     (k, curve-on k (read .result) (read .ensures) _ (c .before .before .before .before .before .read .given .1) _ (c .before .of .ensures))
@@ -48,7 +48,7 @@ same-length : tie.Need-same-length
 same-length c = search needs
 
 returns-2 : tie.Need-returns-2
-returns-2 c = 
+returns-2 c =
     let start = c .before .before .before .before .before .before .before .before .before .before .before .before .before .before in
     let k = now (start .args .curve) in
     let read = c .before .before .before .before .before .before .before .before .before .before .read-curve in
@@ -58,7 +58,7 @@ returns-2 c =
     (omega (arith, c .before .before .before .before .before .if1 .left, curve-modulus k (read .result) (read .ensures) _ is)) (c .before .before .points-on .ensures k o) (kept (c .before .before .points-on .result) (c .before .before .points-on .ok))
 
 returns-3 : tie.Need-returns-3
-returns-3 c = 
+returns-3 c =
     let start = c .before .before .before .before .before .before .before .before in
     let k = now (start .args .curve) in
     let read = c .before .before .before .before .read-curve in

@@ -19,19 +19,19 @@ refusal-requires : tie.Need-refusal-requires
 refusal-requires c κs = search needs
 
 returns : tie.Need-returns
-returns c = 
+returns c =
     let d = now (c .before .before .before .before .before .before .before .before .args .divisor) in
     let read = c .before .before .before .before .before .read-divisor in
     on-short d (read .result) (read .ensures) _ (c .before .before .before .read .given .1) (omega (arith, c .before .if1 .taken)) (kept (c .refusal .result) (c .refusal .ok) ∙ c .refusal .ensures)
 
 list-points-requires : tie.Need-list-points-requires
-list-points-requires c κs = 
+list-points-requires c κs =
     let d = now (c .before .before .before .before .before .before .before .before .args .divisor) in
     let read = c .before .before .before .before .before .read-divisor in
     listed-asked d (read .result) (read .ensures) _ (c .before .before .before .read .given .1) (c .before .before .before .before .before .before .before .before .pre) (omega (arith, c .before .if1 .left))
 
 cast-result : tie.Need-cast-result
-cast-result c = 
+cast-result c =
     let d = now (c .before .before .before .before .before .before .before .before .before .before .before .args .divisor) in
     let read = c .before .before .before .before .before .before .before .before .read-divisor in
     omega (arith, listed-small d (read .result) (read .ensures) _ (c .before .before .before .before .before .before .read .given .1) (c .before .before .before .before .before .before .before .before .before .before .before .pre) (c .before .before .list-points .ensures))
@@ -46,14 +46,14 @@ same-length : tie.Need-same-length
 same-length c = search needs
 
 returns-2 : tie.Need-returns-2
-returns-2 c = 
+returns-2 c =
     let d = now (c .before .before .before .before .before .before .before .before .before .before .before .args .divisor) in
     let read = c .before .before .before .before .before .before .before .before .read-divisor in
     on-written d (read .result) (read .ensures) _ (c .before .before .before .before .before .before .read .given .1) (omega (arith, c .before .before .before .before .if1 .left)) (c .before .before .list-points .ensures)
     (pos-number _ (omega (arith, listed-small d (read .result) (read .ensures) _ (c .before .before .before .before .before .before .read .given .1) (c .before .before .before .before .before .before .before .before .before .before .before .pre) (c .before .before .list-points .ensures))))
 
 returns-3 : tie.Need-returns-3
-returns-3 c = 
+returns-3 c =
     let d = now (c .before .before .before .before .before .before .before .args .divisor) in
     let read = c .before .before .before .before .read-divisor in
     on-refused d (read .result) (read .ensures) _ (c .before .before .read2 .given .1) (kept (c .refusal2 .result) (c .refusal2 .ok) ∙ c .refusal2 .ensures)
