@@ -67,7 +67,7 @@ static struct record sum_of(const uint32_t *n, unsigned count)
 
 static struct record random_31(void)
 {
-    uint32_t n[2] = {0};
+    uint32_t n[2];
     random_points(1, n);
     struct record r = point_record(P, n[0], n[1]);
     return multiple(&curve, &r, 1000 + random_below(2147483647));
@@ -215,7 +215,7 @@ static void time_points(int i)
 {
     double best[2] = {1e18, 1e18};
     uint32_t out[6];
-    int calls = row[i].kind == 11 ? 20 * INPUTS : INPUTS;
+    int calls = row[i].kind < 21 ? 20 * INPUTS : INPUTS; /* for kinds 0 and 11 nothing is scanned */
     same_points(i);
     for (int turn = 0; turn < 2 * ROUNDS; turn++) {
         int side = turn % 2;

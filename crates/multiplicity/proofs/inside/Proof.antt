@@ -22,7 +22,7 @@ element-copy-out-top : tie.Need-element-copy-out-top Inv-loop μ-loop
 element-copy-out-top c = search needs
 
 add-top : tie.Need-add-top Inv-loop μ-loop
-add-top c = omega (arith, c .before .before .before .pre .full .present (c .before .before .loop .j) (c .before .loop-test .taken) .inside)
+add-top c = omega (arith, c .before .before .before .pre .full .present (c .before .before .loop .j) (omega arith) .inside)
 
 mul-member : tie.Need-mul-member Inv-loop μ-loop
 mul-member c = search needs
@@ -31,10 +31,10 @@ index-1-member : tie.Need-index-1-member Inv-loop μ-loop
 index-1-member c = search needs
 
 member-requires : tie.Need-member-requires Inv-loop μ-loop
-member-requires c κs = within-asked (c .before .before .before .loop .inv) (c .before .before .loop-test .taken)
+member-requires c κs = within-asked (c .before .before .before .loop .inv) (omega arith)
 
 returns : tie.Need-returns Inv-loop μ-loop
-returns c = within-stop (c .before .before .before .before .before .loop .inv) (c .before .before .before .before .loop-test .taken) (c .before .member .ensures) (c .if1 .taken)
+returns c = within-stop (c .before .before .before .before .before .loop .inv) (omega arith) (c .before .member .ensures) (c .if1 .taken)
 
 add-j : tie.Need-add-j Inv-loop μ-loop
 add-j c = omega arith
@@ -43,7 +43,7 @@ loop-less : tie.Need-loop-less Inv-loop μ-loop
 loop-less c = omega arith
 
 loop-again : tie.Need-loop-again Inv-loop μ-loop
-loop-again c = within-more (c .before .before .before .before .before .loop .inv) (c .before .before .before .before .loop-test .taken) (c .before .member .ensures) (c .if1 .left)
+loop-again c = within-more (c .before .before .before .before .before .loop .inv) (omega arith) (c .before .member .ensures) (c .if1 .left)
 
 returns-2 : tie.Need-returns-2 Inv-loop μ-loop
 returns-2 c = within-end (c .before .loop .inv) (omega arith)
