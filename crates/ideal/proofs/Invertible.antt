@@ -4,6 +4,7 @@
 --   multiple-ideal         the multiples of e are an ideal
 --   multiple-product       (a)·(b) = (a·b)
 --   invertible-member      h is in Y if (a·b)·h is in e·Y for all a in I and b in I′
+--   product-scaled         I·Y times an element of I′ is in e·Y
 --   colon-invertible       I is invertible if f is in I·(f : I), f not zero
 --   invertible-colon       I·(u : I) = (u) for every u in I
 --   invertible-product     the product of two invertible ideals is invertible
@@ -102,7 +103,7 @@ module _ {R : CommRing} (P : Poles R) where
         go (z, mz, q) = subst Y (sym (cancel P (v .nonzero) q)) mz
 
     -- I·Y times an element of I′ is in e·Y.
-    product-scaled : {Y : Car → Type 0} {b h : Car} → IsIdeal R Y → v .I′ b → Product R I Y h → Scaled R (v .e) Y (h ⊗ b)
+    pub product-scaled : {Y : Car → Type 0} {b h : Car} → IsIdeal R Y → v .I′ b → Product R I Y h → Scaled R (v .e) Y (h ⊗ b)
     product-scaled {Y} {b} y mb = product-in R (taken-ideal R b (scaled-ideal R (v .e) y)) (λ a z ia mz. at z mz (inverse-multiple ia mb))
       where
         at : {a : Car} (z : Car) → Y z → Multiple R (v .e) (a ⊗ b) → Scaled R (v .e) Y (a ⊗ z ⊗ b)

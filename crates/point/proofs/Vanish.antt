@@ -1,6 +1,5 @@
 -- A point (a, b) of the curve and the ideal of its record x − a, y − b: what lies in this ideal is zero at the point. So the polynomials of a record whose
 -- ideal lies inside the point's are zero there.
---   vanish                 a polynomial of low degree in x and y that lies in the point's ideal is zero at (a, b)
 --   x-value κ m t          a polynomial in x alone that lies in the ideal of the record with the numbers m, at x = t
 --   y-value κ m s t        a polynomial of the record in which y leads, at x = s and y = t
 --   f-value m s t          the first polynomial of a record of kind 31
@@ -10,15 +9,14 @@ use mathlib.Core.Path.{_≡_, sym, subst}
 use mathlib.Core.List.{[], _∷_}
 use Prim.Native.Nat.{ℕ}
 use Rattle.algebra.specs.Ring.{CommRing}
-use Rattle.algebra.proofs.Norm.{E, var, nil}
+use Rattle.algebra.proofs.Norm.{nil}
 use Rattle.algebra.proofs.Sound.{value}
 use Rattle.algebra.proofs.Solve.{_⊞_, _⊠_, ⊟_, given, solve-from}
 use Rattle.ideal.proofs.Every.{Every, every-map, every-source}
 use Rattle.ideal.proofs.Generated.{generated-each}
 use Rattle.powers.specs.Power.{Inside}
-use Rattle.curve.specs.Curve.{Curve, Coordinate, x, y, constant}
+use Rattle.curve.specs.Curve.{Curve, Coordinate}
 use Rattle.divisor.specs.Kind.{Kind, k0, k11, k21, k22, k31, polynomials, IdealOf, IsBasis}
-use Rattle.invertible.proofs.Formula as formula
 use Rattle.invertible.proofs.Formula.{forms}
 use Rattle.invertible.proofs.Value as values
 use Rattle.point.proofs.OnCurve.{value-zero}
@@ -61,20 +59,7 @@ module _ (k : CommRing) where
           (λ s t f0 f1 f2 g0 g1 g2. (s ⊠ s ⊞ f1 ⊠ s ⊞ f0) ⊠ (s ⊞ g2) ⊞ ⊟ (f2 ⊠ (g1 ⊠ s ⊞ g0))) (λ s t f0 f1 f2 g0 g1 g2. nil) tt
 
 module _ {k : CommRing} (C : Curve k) (a b : k .Car) (n : ℕ → k .Car) (n0 : n 0 ≡ k .neg a) (n1 : n 1 ≡ k .neg b) (basis : IsBasis C k11 n) where
-  open CommRing k using (Car, add as _+_, mul as _·_)
-  open CommRing (Coordinate C) using (add as _⊕_, mul as _⊗_)
-
-  infixl 60 _+_ _⊕_
-  infixl 70 _·_ _⊗_
-  pub vanish : (m30 m20 m11 m02 m10 m01 m00 : Car)
-      → IdealOf C k11 n (constant C m30 ⊗ (x C ⊗ (x C ⊗ x C)) ⊕ constant C m20 ⊗ (x C ⊗ x C) ⊕ constant C m11 ⊗ (x C ⊗ y C) ⊕ constant C m02 ⊗ (y C ⊗ y C)
-      ⊕ constant C m10 ⊗ x C ⊕ constant C m01 ⊗ y C ⊕ constant C m00)
-      → m30 · (a · (a · a)) + m20 · (a · a) + m11 · (a · b) + m02 · (b · b) + m10 · a + m01 · b + m00 ≡ k .zero
-  vanish m30 m20 m11 m02 m10 m01 m00 =
-      let s : E = formula.x in
-      let t : E = formula.y in
-      value-zero C a b n n0 n1 basis (m30 ∷ m20 ∷ m11 ∷ m02 ∷ m10 ∷ m01 ∷ m00 ∷ [])
-      (var 2 ⊠ (s ⊠ (s ⊠ s)) ⊞ var 3 ⊠ (s ⊠ s) ⊞ var 4 ⊠ (s ⊠ t) ⊞ var 5 ⊠ (t ⊠ t) ⊞ var 6 ⊠ s ⊞ var 7 ⊠ t ⊞ var 8)
+  open CommRing k using (Car)
 
   module _ (κ : Kind) (m : ℕ → Car) (inside : Inside (Coordinate C) (IdealOf C κ m) (IdealOf C k11 n)) where
     forms-in : Every (λ e. IdealOf C κ m (values.at C m e)) (forms κ)
