@@ -142,19 +142,6 @@ static void vary(const struct call *c, uint32_t p)
 
 /* ---- the calls ---- */
 
-static const struct record *of_kind(const struct sample *s, uint32_t kind)
-{
-    for (unsigned i = 0; i < s->records; i++)
-        if (get16(s->record[i].b + 2) == kind)
-            return &s->record[i];
-    return NULL;
-}
-
-static int has_all_kinds(const struct sample *s)
-{
-    return of_kind(s, 11) && of_kind(s, 21) && of_kind(s, 22) && of_kind(s, 31);
-}
-
 /* A list of one record of each kind and some more; its length is returned. */
 static size_t make_list(const struct sample *s, uint8_t *list)
 {

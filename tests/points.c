@@ -272,19 +272,6 @@ static void points_causes(const struct sample *s)
         }
 }
 
-static const struct record *of_kind(const struct sample *s, uint32_t kind)
-{
-    for (unsigned i = 0; i < s->records; i++)
-        if (get16(s->record[i].b + 2) == kind)
-            return &s->record[i];
-    return NULL;
-}
-
-static int has_all_kinds(const struct sample *s)
-{
-    return s->points > 0 && of_kind(s, 11) && of_kind(s, 21) && of_kind(s, 22) && of_kind(s, 31);
-}
-
 static void run_refusals(uint32_t p)
 {
     static const uint32_t kinds[5] = {0, 11, 21, 22, 31};
@@ -292,7 +279,7 @@ static void run_refusals(uint32_t p)
     uint32_t n[4];
     do
         make_sample(&s, p, RECORDS);
-    while (!has_all_kinds(&s));
+    while (s.points == 0 || !has_all_kinds(&s));
     random_points(&s, n, 2);
     struct call c = sum_call(&s, n, 4);
     vary_length(&c, &c.curve);

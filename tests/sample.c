@@ -261,3 +261,16 @@ void make_sample(struct sample *s, uint32_t p, unsigned records)
     fill_records(s, records);
     fill_pairs(s);
 }
+
+const struct record *of_kind(const struct sample *s, uint32_t kind)
+{
+    for (unsigned i = 0; i < s->records; i++)
+        if (get16(s->record[i].b + 2) == kind)
+            return &s->record[i];
+    return NULL;
+}
+
+int has_all_kinds(const struct sample *s)
+{
+    return of_kind(s, 11) && of_kind(s, 21) && of_kind(s, 22) && of_kind(s, 31);
+}

@@ -2,6 +2,7 @@
 
    sample        a nonsingular curve with some points and accepted records on it
    make_sample   a random one
+   of_kind       the first record of the sample that has the kind, NULL for none
    pick          a record of the sample
    pick_pair     two records of the sample, one time in three a degenerate pair
    put_fractions fractions that give the sample's curve modulo its p */
@@ -32,6 +33,9 @@ void make_sample(struct sample *s, uint32_t p, unsigned records);
 /* A random curve through three points that are not on a line. */
 void make_sample_through(struct sample *s, uint32_t p, const uint32_t x[3], const uint32_t y[3], unsigned records);
 
+const struct record *of_kind(const struct sample *s, uint32_t kind);
+/* Has it a record of each of the kinds 11, 21, 22 and 31? */
+int has_all_kinds(const struct sample *s);
 const struct record *pick(const struct sample *s);
 struct record sum_of(const struct sample *s, const struct record *a, const struct record *b);
 struct record negative_of(const struct sample *s, const struct record *a);
