@@ -3,7 +3,7 @@
 --   chosen-y       the polynomial of the divisor's kind in which y leads
 --   chosen-31      for kind 31 this one or the first
 use mathlib.Core.Path.{_≡_, sym, subst}
-use mathlib.Core.Logic.{_⊎_, inl, inr}
+use mathlib.Core.Logic.{inl, inr}
 use Prim.Native.Nat.{ℕ}
 use native.Mathlib.Decide.{ℕ-discrete}
 use Rattle.algebra.specs.Ring.{CommRing}
@@ -13,7 +13,7 @@ use Rattle.basis.specs.declared.Divisor.{Divisor}
 use Rattle.basis.specs.Divisor.{residues, Shaped}
 use Rattle.roots.specs.declared.Cubic.{Cubic}
 use Rattle.roots.specs.Contract.{cubic-at}
-use Rattle.point.proofs.Vanish.{x-value, y-value, f-value}
+use Rattle.point.proofs.Vanish.{x-value, y-value}
 use Rattle.eliminants.specs.Contract.{InX, InY}
 use Rattle.eliminants.specs.Parts.{Stands, InY31}
 

@@ -15,7 +15,7 @@ use Rattle.reader.specs.Reading.{On, GivenOn}
 use Rattle.reader.specs.declared.DivisorAnswer.{DivisorAnswer}
 use Rattle.reader.specs.declared.DivisorAnswer.the-variants as answer
 use Rattle.classes.specs.Found.{OnCurves}
-use Rattle.point.specs.Point.{Pair, Point, point-record}
+use Rattle.point.specs.Point.{Point, point-record}
 use Rattle.point.specs.PointCall.{pair-stages}
 use Rattle.pair.specs.Contract.{PairRead}
 use Rattle.listing.specs.Contract.{StandsAsked, Stands}

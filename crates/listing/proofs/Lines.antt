@@ -11,7 +11,7 @@
 --   reached-length         the slice keeps its length
 --   Line                   the invariant of list_at's loop; line-start, line-next, line-end
 --   reached-next           the next turn of list_points' loop
-use mathlib.Core.Path.{_≡_, sym, _∙_, ap, subst}
+use mathlib.Core.Path.{_≡_, sym, subst}
 use mathlib.Core.List.{List, [], _++_}
 use Prim.Native.Nat.{ℕ, suc, _+_, _<_, _≤_}
 use native.Mathlib.Omega.{arith}
@@ -21,13 +21,12 @@ use Rattle.ground.specs.declared.Ground.{Ground}
 use Rattle.basis.specs.Divisor.{Shaped}
 use Rattle.basis.specs.declared.Divisor.{Divisor}
 use Rattle.record.specs.Curve.{modulus, accepted-prime}
-use Rattle.reader.specs.Reading.{On, GivenOn}
 use Rattle.roots.specs.declared.Cubic.{Cubic}
 use Rattle.roots.specs.Contract.{RootAsked, RootFound}
 use Rattle.eliminants.specs.Contract.{EliminantAsked, EliminantAtAsked, Coefficients, InX, InY}
 use Rattle.point.specs.Point.{Pair}
 use Rattle.point.specs.PointCall.{points-room}
-use Rattle.listing.specs.Contract.{Divided, OnDivisor, Stands, PutAsked, Put, Seen, Held, Reached, AtAsked, ListedAt, ListAsked, Listed}
+use Rattle.listing.specs.Contract.{Divided, Stands, PutAsked, Put, Reached, ListedAt, Listed}
 use Rattle.listing.proofs.Slices.{held-start, held-put, held-room, held-length}
 use Rattle.listing.proofs.Missed.{missed-x, missed-y}
 use Rattle.listing.proofs.Scan.{seen-start, seen-skip, seen-put, seen-line, seen-lines, seen-all, seen-three}

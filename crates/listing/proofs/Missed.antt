@@ -2,14 +2,13 @@
 --   x-missed, y-missed, f-missed       at a point of the divisor the polynomials of crate point, proofs/Vanish, are 0
 --   missed-x               no point of the divisor has its x where a scan of x found no root
 --   missed-y               … nor its y at x = a where a scan of y found none
-use mathlib.Core.Path.{_≡_, sym, _∙_, subst}
+use mathlib.Core.Path.{_≡_, _∙_, subst}
 use mathlib.Core.Logic.{_⊎_, inl, inr}
 use mathlib.Core.List.{List}
 use Prim.Native.Nat.{ℕ, _<_, _≤_}
 use Rattle.algebra.specs.Ring.{CommRing}
 use Rattle.field.specs.Residue.{Z, el}
 use Rattle.field.proofs.Element.{el-num}
-use Rattle.curve.specs.Curve.{Coordinate}
 use Rattle.divisor.specs.Kind.{Kind, k11, k31, IdealOf}
 use Rattle.powers.specs.Power.{Inside}
 use Rattle.ground.specs.declared.Ground.{Ground}
@@ -22,7 +21,7 @@ use Rattle.calls.proofs.Values.{value-ideal}
 use Rattle.roots.specs.declared.Cubic.{Cubic}
 use Rattle.roots.specs.Contract.{cubic-at, RootFound}
 use Rattle.eliminants.specs.Contract.{InX, InY}
-use Rattle.point.specs.Point.{Pair, Point, point-record, IsMultiplicity}
+use Rattle.point.specs.Point.{Point, point-record, IsMultiplicity}
 use Rattle.point.proofs.Vanish.{x-value, y-value, f-value, x-vanishes, y-vanishes, f-vanishes}
 use Rattle.point.proofs.Records.{point-value, point-basis, point-ideal}
 use Rattle.point.proofs.Degree.{point-invertible}

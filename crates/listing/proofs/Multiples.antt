@@ -2,18 +2,16 @@
 --   multiplicity-none      a point whose ideal does not hold the divisor's has multiplicity 0
 --   multiplicity-asked     what the search of the multiplicity asks
 --   multiplicity-found     … and that it finds the multiplicity
-use mathlib.Core.Path.{_≡_, sym, subst}
+use mathlib.Core.Path.{sym, subst}
 use mathlib.Core.List.{List}
 use Prim.Native.Nat.{ℕ, zero, suc, _<_, _≤_}
 use native.Mathlib.Omega.{arith}
 use native.Mathlib.Decide.{decLt}
-use lib.ListN.{length, replicate, length-replicate}
-use Rattle.algebra.specs.Ring.{CommRing}
 use Rattle.ideal.specs.Ideal.{IsIdeal, SameIdeal}
 use Rattle.ideal.proofs.Same.{same-trans}
 use Rattle.powers.specs.Power.{Power, Inside}
 use Rattle.powers.proofs.Powers.{power-one, power-same, power-less}
-use Rattle.triple.specs.Setting.{Setting, ring}
+use Rattle.triple.specs.Setting.{Setting}
 use Rattle.triple.specs.Triple.{Spanned}
 use Rattle.ground.specs.declared.Ground.{Ground}
 use Rattle.basis.specs.declared.Divisor.{Divisor}
@@ -21,14 +19,13 @@ use Rattle.basis.specs.Contract.{TripleOf}
 use Rattle.group.specs.Contract.{IsDivisor, ideal}
 use Rattle.group.proofs.Divisor.{divisor-tripled, divisor-span, divisor-same}
 use Rattle.multiplicity.specs.Contract.{MultiplicityAsked, MultiplicityFound}
-use Rattle.record.specs.Curve.{modulus, equation, AcceptedCurve, setting-of}
+use Rattle.record.specs.Curve.{modulus, AcceptedCurve, setting-of}
 use Rattle.reader.specs.Reading.{On, GivenOn}
 use Rattle.reader.proofs.Ground.{ground-is, grounded-at}
 use Rattle.calls.specs.Class.{Ring, Ideal}
 use Rattle.calls.proofs.Values.{value-ideal}
-use Rattle.point.specs.Point.{Pair, Point, point-record, PointPower, IsMultiplicity, times}
-use Rattle.point.proofs.Times.{same-pair, times-replicate, times-replicate-other, points-replicate}
-use Rattle.point.proofs.Degree.{points-three}
+use Rattle.point.specs.Point.{Pair, Point, point-record, PointPower, IsMultiplicity}
+use Rattle.point.proofs.Copies.{most-three}
 
 module _ (c : List ℕ) (A : AcceptedCurve c) where
   abbrev S : Setting (modulus c)
@@ -52,16 +49,6 @@ module _ (c : List ℕ) (A : AcceptedCurve c) where
       largest : (j : ℕ) → Inside (Ring c) (Ideal c w) (PointPower c q j) → j ≤ 0
       largest zero m = omega arith
       largest (suc j) m = absurd (n (λ h k. power-one (Ring c) i h .0 (power-less (Ring c) (Ideal c (point-record c q)) 1 (suc j) (omega arith) h (m h k))))
-
-  -- A list of j copies of a point has at most three.
-  most-three : (w : List ℕ) {r : Divisor} → GivenOn c w r → (q : Pair) → Point c q → (j : ℕ) → Inside (Ring c) (Ideal c w) (PointPower c q j) → j ≤ 3
-  most-three w v q pt j m =
-      omega (arith, length-replicate j q, points-three c A w (v .accepted) (replicate j q) (points-replicate c q pt j) (λ s ps. go s (same-pair s q)))
-    where
-      go : (s : Pair) → Dec (s ≡ q) → Inside (Ring c) (Ideal c w) (PointPower c s (times s (replicate j q)))
-      go s (yes e) = subst (λ (z : Pair). Inside (Ring c) (Ideal c w) (PointPower c z (times z (replicate j q)))) (sym e)
-          (subst (λ (k : ℕ). Inside (Ring c) (Ideal c w) (PointPower c q k)) (sym (times-replicate q j)) m)
-      go s (no e) = subst (λ (k : ℕ). Inside (Ring c) (Ideal c w) (PointPower c s k)) (sym (times-replicate-other s q j e)) (λ h i. tt)
 
 module _ {c : List ℕ} {g : Ground} (o : On c g) {w : List ℕ} {r x : Divisor} (v : GivenOn c w r) (q : Pair) (vx : GivenOn c (point-record c q) x)
     {t u : List (List ℕ)} {d e : List ℕ} (h : TripleOf r t d) (hx : TripleOf x u e) where
@@ -92,7 +79,7 @@ module _ {c : List ℕ} {g : Ground} (o : On c g) {w : List ℕ} {r x : Divisor}
 
       largest : (j : ℕ) → Inside (Ring c) (Ideal c w) (PointPower c q j) → Dec (k < j) → Dec (k < 3) → j ≤ k
       largest j m (no l) b = omega arith
-      largest j m (yes l) (no b) = omega (arith, most-three c A w v q pt j m)
+      largest j m (yes l) (no b) = omega (arith, most-three c A w (v .accepted) q pt j m)
       largest j m (yes l) (yes b) =
           absurd
           (found .above (grounded-at o .ready) span b

@@ -20,7 +20,6 @@ use Rattle.ground.specs.declared.Ground.{Ground}
 use Rattle.basis.specs.declared.Divisor.{Divisor}
 use Rattle.basis.specs.Contract.{TripleOf}
 use Rattle.reader.specs.Reading.{On, GivenOn}
-use Rattle.classes.specs.Found.{OnCurves}
 use Rattle.point.specs.Point.{Pair, Point, AllPoints, IsMultiplicity, IsPoints, times}
 use Rattle.point.specs.PointCall.{coordinates, points-room}
 

@@ -7,18 +7,17 @@
 use mathlib.Core.Path.{_≡_, subst}
 use mathlib.Core.Bool.{Bool, true, false, not}
 use mathlib.Core.List.{List}
-use Prim.Native.Nat.{ℕ, suc, _<_}
+use Prim.Native.Nat.{ℕ, suc}
 use native.Mathlib.Omega.{arith}
 use borrow.Author.Tests.{not-true, not-false}
 use Rattle.algebra.specs.Ring.{CommRing}
-use Rattle.ideal.specs.Ideal.{IsIdeal, SameIdeal, Product}
+use Rattle.ideal.specs.Ideal.{IsIdeal, SameIdeal}
 use Rattle.ideal.proofs.Same.{same-refl, same-sym, same-trans}
 use Rattle.ideal.proofs.Product.{product-same}
 use Rattle.powers.specs.Power.{Power, Inside}
 use Rattle.powers.proofs.Powers.{power-one}
 use Rattle.triple.specs.Setting.{ring, Ready}
 use Rattle.triple.specs.Triple.{Spanned}
-use Rattle.span.specs.Contract.{Small}
 use Rattle.product.specs.Contract.{ProductAsked, Multiplied}
 use Rattle.multiplicity.specs.Contract.{InsideTest, MultiplicityAsked, MultiplicityFound}
 use Rattle.multiplicity.proofs.Rests.{small-inside}

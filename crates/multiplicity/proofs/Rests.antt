@@ -5,27 +5,20 @@
 use mathlib.Core.Path.{_≡_, refl, sym, _∙_, ap, subst}
 use mathlib.Core.Bool.{Bool, true, false, not, true≢false, false≢true}
 use mathlib.Core.List.{List}
-use Prim.Native.Nat.{ℕ, zero, suc, _+_, _%_, _<_, _≤_}
+use Prim.Native.Nat.{ℕ, zero, suc, _+_, _<_, _≤_}
 use native.Mathlib.Omega.{arith}
 use native.Mathlib.Decide.{ℕ-discrete}
-use lib.ListN.{length, List·getD-eq-default}
+use lib.ListN.{List·getD-eq-default}
 use borrow.Author.Tests.{not-true, not-false}
 use Rattle.algebra.specs.Ring.{CommRing}
-use Rattle.algebra.specs.Answers.{Answers}
 use Rattle.algebra.proofs.Laws as L
-use Rattle.field.specs.Residue.{Z, el}
-use Rattle.field.proofs.Element.{el-pos}
-use Rattle.ideal.specs.Poles.{HasPole}
-use Rattle.ideal.proofs.Degree.{pole-some, monic-pole}
+use Rattle.ideal.proofs.Degree.{monic-pole}
 use Rattle.ideal.proofs.Leads.{space-neg}
 use Rattle.ideal.proofs.Span.{span-space, span-sum, span-within}
 use Rattle.ideal.proofs.Rules.{move}
-use Rattle.curve.specs.Sequence.{coefficient}
-use Rattle.curve.proofs.Term.{coefficient-zero}
 use Rattle.powers.specs.Power.{Inside}
-use Rattle.vector.specs.Vector.{Vec, Top, at, row, width, element}
+use Rattle.vector.specs.Vector.{Top, at, row, element}
 use Rattle.vector.specs.Contract.{ZeroAsked, ZeroTest}
-use Rattle.vector.proofs.Element.{element-coefficient}
 use Rattle.triple.specs.Setting.{Setting, ring, poles-of}
 use Rattle.triple.specs.Triple.{Triple, Full, Spanned, elements}
 use Rattle.triple.proofs.Element.{element-zero, element-pole, present-monic}

@@ -36,7 +36,7 @@ use Rattle.calls.proofs.Multiples.{list-one}
 use Rattle.calls.proofs.Answers.{sound-append, divisor-stages-sound, writes-one}
 use Rattle.point.specs.Point.{Pair, OnCurve, Point, point-record, IsMultiplicity, times, AllPoints, IsPoints}
 use Rattle.point.specs.PointCall.{pairs, coordinates, numbers-stage, pairs-stages, PointsSum, points-room, points-stages, PointsOf, refused, written}
-use Rattle.point.proofs.Times.{same-pair, times-none, times-here, times-other, times-off}
+use Rattle.point.proofs.Times.{same-pair, times-none, times-other, times-less, times-first, times-off}
 use Rattle.point.proofs.Records.{point-accepted}
 
 pub multiplicity-one : (c d : List ℕ) (q : Pair) (k j : ℕ) → IsMultiplicity c d q k → IsMultiplicity c d q j → k ≡ j
@@ -61,15 +61,12 @@ points-same c d ps qs h h′ q = go (point-dec c q)
     go (yes g) = multiplicity-one c d q (times q ps) (times q qs) (h .often q g) (h′ .often q g)
     go (no n) = times-off c q ps n (h .points) ∙ sym (times-off c q qs n (h′ .points))
 
--- One pair more at the start of two lists, two pairs in either order, and one pair less.
+-- One pair more at the start of two lists, and two pairs in either order.
 times-more : (s r : Pair) (ps qs : List Pair) → times s ps ≡ times s qs → times s (r ∷ ps) ≡ times s (r ∷ qs)
 times-more (a, b) (a′, b′) ps qs e = omega (arith, e)
 
 times-swap : (s q r : Pair) (ps : List Pair) → times s (r ∷ q ∷ ps) ≡ times s (q ∷ r ∷ ps)
 times-swap (a, b) (a′, b′) (a″, b″) ps = omega arith
-
-times-less : (s q : Pair) (ps qs : List Pair) → times s (q ∷ ps) ≡ times s (q ∷ qs) → times s ps ≡ times s qs
-times-less (a, b) (a′, b′) ps qs e = omega (arith, e)
 
 pub record Removed (q : Pair) (qs : List Pair) : Type 0 where
   pub rest : List Pair
@@ -91,13 +88,10 @@ removed q (r ∷ qs) n = go (same-pair q r) (removed q qs)
           same = λ s. times-more s r qs (q ∷ h .rest) (h .same s) ∙ times-swap s q r (h .rest);
         }
 
-zero-suc : {n : ℕ} → 0 ≡ suc n → ⊥
-zero-suc e = omega (arith, e)
-
 pub times-length : (ps qs : List Pair) → SameTimes ps qs → length ps ≡ length qs
 times-length [] [] e = refl
-times-length [] (q ∷ qs) e = absurd (zero-suc (sym (times-none q) ∙ e q ∙ times-here q qs))
-times-length (p ∷ ps) qs e = go (removed p qs (λ z. zero-suc (sym z ∙ sym (e p) ∙ times-here p ps))) (times-length ps)
+times-length [] (q ∷ qs) e = absurd (times-first q qs (sym (times-none q) ∙ e q))
+times-length (p ∷ ps) qs e = go (removed p qs (λ z. times-first p ps (sym z ∙ sym (e p)))) (times-length ps)
   where
     go : Removed p qs → ((rs : List Pair) → SameTimes ps rs → length ps ≡ length rs) → suc (length ps) ≡ length qs
     go h next = ap suc (next (h .rest) (λ s. times-less s p ps (h .rest) (e s ∙ h .same s))) ∙ sym (h .long)

@@ -6,3 +6,4 @@ pub mod Times
 pub mod Coordinates
 pub mod Degree
 pub mod Determined
+pub mod Copies

@@ -3,6 +3,8 @@
 --   times-none, times-here, times-other    no pair stands in the empty list; the first pair counts for itself and for no other
 --   times-append               in two lists one after the other
 --   times-replicate, times-replicate-other     in k copies of a pair
+--   times-less                 two lists with the same first pair, without it
+--   times-first                the first pair of a list stands in it
 --   points-append, points-replicate        lists of points one after the other, k copies of a point
 --   points-every               each pair of a list of points is a point
 --   times-off                  a pair that is no point does not stand in a list of points
@@ -69,6 +71,12 @@ times-replicate q (suc k) = times-here q (replicate k q) ∙ ap suc (times-repli
 pub times-replicate-other : (q r : Pair) (k : ℕ) → ¬ (q ≡ r) → times q (replicate k r) ≡ 0
 times-replicate-other q r zero d = times-none q
 times-replicate-other q r (suc k) d = times-other q r (replicate k r) d ∙ times-replicate-other q r k d
+
+pub times-less : (s q : Pair) (ps qs : List Pair) → times s (q ∷ ps) ≡ times s (q ∷ qs) → times s ps ≡ times s qs
+times-less (a, b) (a′, b′) ps qs e = omega (arith, e)
+
+pub times-first : (q : Pair) (ps : List Pair) → ¬ (0 ≡ times q (q ∷ ps))
+times-first q ps e = omega (arith, e ∙ times-here q ps)
 
 module _ (c : List ℕ) where
   pub points-append : (ps qs : List Pair) → AllPoints c ps → AllPoints c qs → AllPoints c (ps ++ qs)

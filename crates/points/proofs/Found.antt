@@ -4,7 +4,7 @@
 --   on-refused, on-short, on-written       points_on: the divisor is refused; the slice is too short; the points are written
 --   curve-modulus          the modulus of the equation that was read
 --   of-curve, of-large, of-found           points_of: the curve is refused; p is too large; what points_on answers
-use mathlib.Core.Path.{_≡_, refl, sym, _∙_, ap, subst}
+use mathlib.Core.Path.{_≡_, refl, _∙_, ap, subst}
 use mathlib.Core.Logic.{inl, inr}
 use mathlib.Core.List.{List, _∷_, _++_}
 use Prim.Native.Nat.{ℕ, _*_, _<_, _≤_}
@@ -27,10 +27,9 @@ use Rattle.calls.specs.Answer.{minus, buffer}
 use Rattle.calls.specs.Call.{divisor-of}
 use Rattle.classes.specs.Found.{Curved, OnCurves}
 use Rattle.classes.proofs.Read.{read-given, read-refused}
-use Rattle.point.specs.Point.{Pair}
-use Rattle.point.specs.PointCall.{coordinates, scan-limit, points-room, points-stages, PointsOf, refused, written}
+use Rattle.point.specs.PointCall.{coordinates, scan-limit, points-room, PointsOf, refused, written}
 use Rattle.point.proofs.Degree.{points-suffice}
-use Rattle.listing.specs.Contract.{Divided, ListAsked, Listed}
+use Rattle.listing.specs.Contract.{ListAsked, Listed}
 use Rattle.points.specs.Contract.{on-stages, PointsOn}
 use Rattle.points.specs.Contract as on
 

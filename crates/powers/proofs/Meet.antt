@@ -3,7 +3,7 @@
 -- With I·I′ = (e) and h in both: for b in I′ is h·b = e·z with z in X, and h·b = e·z′ with z′ in Y. R is a domain, so z = z′ is in X ∩ Y.
 -- For a in I is then (a·b)·h = e·(a·z), and a·z is in I·(X ∩ Y).
 -- e is a sum of products a·b, so e·h is e times an element of I·(X ∩ Y) (invertible-member), and that element is h.
-use mathlib.Core.Path.{_≡_, sym, _∙_, ap, subst}
+use mathlib.Core.Path.{sym, _∙_, ap, subst}
 use Rattle.algebra.specs.Ring.{CommRing}
 use Rattle.algebra.proofs.Laws as laws
 use Rattle.ideal.specs.Ideal.{IsIdeal, Product}

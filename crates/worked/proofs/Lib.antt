@@ -10,3 +10,4 @@ pub mod Rows
 pub mod Certificates
 pub mod Worked
 pub mod Fractions
+pub mod Points

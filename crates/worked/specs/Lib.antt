@@ -1,3 +1,4 @@
 -- The worked sums of document 01, and the examples of document 02.
 pub mod Table
 pub mod Fractions
+pub mod Points
