@@ -1,4 +1,4 @@
-/* Times of the ten calls of libc34.a and of the same calls in C, by turns in one run on the same inputs, and ratios.
+/* Times of the eleven calls of libc34.a and of the same calls in C, by turns in one run on the same inputs, and ratios.
    The parts of a call are differences of calls' times.
      calls_times [NS]       prints all tables; NS is Singular's time of a bare sum, left out where it is not known
      calls_times short      prints the tables without the sequences
@@ -43,6 +43,7 @@ BOTH(sum, CURVE, RECORD(i), RECORD(i + 1), out, 40)
 BOTH(double, CURVE, RECORD(i), out, 40)
 BOTH(negative, CURVE, RECORD(i), out, 40)
 BOTH(compare, CURVE, RECORD(i), RECORD(i / 2 * 2))
+BOTH(compare_words, CURVE, RECORD(i), RECORD(i / 2 * 2))
 BOTH(count, CURVE, LIST, 31)
 BOTH(list_sum, CURVE, LIST, out, 40)
 BOTH(multiple, CURVE, RECORD(i), s->n[i % MULTIPLES], out, 40)
@@ -57,6 +58,7 @@ enum {
     DOUBLE,
     NEGATIVE,
     COMPARE,
+    COMPARE_WORDS,
     COUNT_KIND,
     LIST_SUM,
     MULTIPLE,
@@ -76,6 +78,7 @@ static const struct {
 } row[CALLS] = {
     {ROW(check_curve), RECORDS, 0}, {ROW(check_divisor), RECORDS, 0}, {ROW(sum), RECORDS, 0},
     {ROW(double), RECORDS, 0},      {ROW(negative), RECORDS, 0},      {ROW(compare), RECORDS, 0},
+    {ROW(compare_words), RECORDS, 0},
     {ROW(count), 1, 0},             {ROW(list_sum), 1, 0},            {ROW(multiple), MULTIPLES, 0},
     {ROW(reduce_curve), RECORDS, 0},
     {"check_curve, refused with 4", {proved_refused_curve, plain_refused_curve}, RECORDS, -4},

@@ -45,6 +45,11 @@ int32_t c34_compare(bytes c, size_t nc, bytes a, size_t na, bytes b, size_t nb)
     return base_compare(c, nc, a, na, b, nb);
 }
 
+int32_t c34_compare_words(bytes c, size_t nc, bytes a, size_t na, bytes b, size_t nb)
+{
+    return base_compare_words(c, nc, a, na, b, nb);
+}
+
 int32_t c34_count(bytes c, size_t nc, bytes list, size_t n, uint32_t kind)
 {
     return base_count(c, nc, list, n, kind);

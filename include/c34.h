@@ -1,4 +1,4 @@
-/* Divisor class arithmetic on C34 curves over prime fields: the ten calls of libc34.a, for C and C++.
+/* Divisor class arithmetic on C34 curves over prime fields: the eleven calls of libc34.a, for C and C++.
 
    The curve is y^3 + x^4 + c8 xy^2 + c7 x^2y + c6 x^3 + c5 y^2 + c4 xy + c3 x^2 + c2 y + c1 x + c0 over the field of
    p elements, p a prime from 2 to 2147483647. A divisor class is named by its reduced divisor, which is one record.
@@ -126,6 +126,12 @@ int32_t c34_list_sum(const uint8_t *curve, size_t curve_len, const uint8_t *list
 int32_t c34_compare(const uint8_t *curve, size_t curve_len, const uint8_t *a, size_t a_len, const uint8_t *b,
                     size_t b_len);
 
+/* How many pairs of words of four bytes that comparison takes, from the first: up to and with the first pair that
+   differs, or all where none does. Divisors of different kinds differ in the first word, which is length and kind.
+   Domain: any bytes. Result: the count, 1 to 10. Refusals: 1 to 9, for a before b. Writes nothing. */
+int32_t c34_compare_words(const uint8_t *curve, size_t curve_len, const uint8_t *a, size_t a_len, const uint8_t *b,
+                          size_t b_len);
+
 /* How many records of a list have the kind.
    Domain: any bytes, any kind. Result: the count; 0 for a number that is no divisor kind. Refusals: 1 to 5, 11, then
    6 to 9 for each record from first to last. Writes nothing. */
@@ -169,6 +175,8 @@ static inline uint8_t *c34_written(uint8_t *bytes)
     (c34_list_sum)(c34_read(curve), (curve_len), c34_read(list), (list_len), c34_written(out), (out_len))
 #define c34_compare(curve, curve_len, a, a_len, b, b_len) \
     (c34_compare)(c34_read(curve), (curve_len), c34_read(a), (a_len), c34_read(b), (b_len))
+#define c34_compare_words(curve, curve_len, a, a_len, b, b_len) \
+    (c34_compare_words)(c34_read(curve), (curve_len), c34_read(a), (a_len), c34_read(b), (b_len))
 #define c34_count(curve, curve_len, list, list_len, kind) \
     (c34_count)(c34_read(curve), (curve_len), c34_read(list), (list_len), (kind))
 #define c34_reduce_curve(fractions, fractions_len, p, out, out_len) \

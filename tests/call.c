@@ -23,7 +23,9 @@ int32_t by_library(const struct call *c)
         return c34_compare(k.at, k.len, a.at, a.len, b.at, b.len);
     case COUNT:
         return c34_count(k.at, k.len, a.at, a.len, c->kind);
-    default:
+    case REDUCE_CURVE:
         return c34_reduce_curve(k.at, k.len, c->p, c->out, c->out_len);
+    default:
+        return c34_compare_words(k.at, k.len, a.at, a.len, b.at, b.len);
     }
 }

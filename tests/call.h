@@ -22,6 +22,7 @@ enum verb {
     COMPARE,
     COUNT,
     REDUCE_CURVE,
+    COMPARE_WORDS,
     VERBS, /* those before are calls of libc34.a, those after of the archive of bench_points */
     POINTS_SUM,
     POINTS_OF,
@@ -37,7 +38,7 @@ struct call {
     enum verb verb;
     struct slice curve; /* for REDUCE_CURVE the fractions */
     struct slice a;     /* the divisor, the first divisor or the list; for POINTS_SUM the numbers */
-    struct slice b;     /* the second divisor, for SUM and COMPARE */
+    struct slice b;     /* the second divisor, for SUM, COMPARE and COMPARE_WORDS */
     int64_t n;          /* for MULTIPLE */
     uint32_t kind;      /* for COUNT */
     uint32_t p;         /* for REDUCE_CURVE */
@@ -50,6 +51,7 @@ extern const char *const verb_name[ALL_VERBS];
 int writes(enum verb verb);
 int takes_list(enum verb verb);
 int takes_two(enum verb verb);
+int compares(enum verb verb);
 /* How many slices the verb reads: 1 is the curve or the fractions, 2 also a, 3 also b. */
 int slices_read(enum verb verb);
 /* The least result buffer that the verb takes, 0 if it writes nothing. */

@@ -3,8 +3,8 @@
 #include <stdio.h>
 #include <stdlib.h>
 
-const char *const verb_name[ALL_VERBS] = {"curve", "divisor", "sum",  "double", "neg", "mul", "lsum",
-                                          "cmp",   "count",   "frac", "",       "psum", "points"};
+const char *const verb_name[ALL_VERBS] = {"curve", "divisor", "sum",  "double", "neg", "mul",  "lsum",
+                                          "cmp",   "count",   "frac", "words",  "",    "psum", "points"};
 
 int writes(enum verb verb)
 {
@@ -16,9 +16,14 @@ int takes_list(enum verb verb)
     return verb == LIST_SUM || verb == COUNT;
 }
 
+int compares(enum verb verb)
+{
+    return verb == COMPARE || verb == COMPARE_WORDS;
+}
+
 int takes_two(enum verb verb)
 {
-    return verb == SUM || verb == COMPARE;
+    return verb == SUM || compares(verb);
 }
 
 int slices_read(enum verb verb)

@@ -2,8 +2,9 @@
    is only read cannot be written. On such slices the library is held against the independent implementation on every
    truncation and lengthening of curve, fractions, records and lists, on wrong length and kind fields, on numbers and
    moduli at the borders of what is accepted, on result buffers of 0 to 60 bytes and on empty slices with a null
-   pointer. */
+   pointer; the comparisons also on records that differ in one byte, and on all pairs of records over F_2. */
 #include "pages.h"
+#include "pairs.h"
 #include "sample.h"
 #include <stdio.h>
 #include <string.h>
@@ -104,6 +105,21 @@ static void vary_numbers(const struct call *given, int i, uint32_t p)
         }
 }
 
+/* Each byte in turn with another lowest or highest bit. */
+static void vary_bytes(const struct call *given, int i)
+{
+    uint8_t b[C34_CURVE_LENGTH];
+    struct call c = *given;
+    struct slice *s = argument(&c, i);
+    for (size_t at = 0; at < s->len; at++)
+        for (int bit = 0; bit < 8; bit += 7) {
+            memcpy(b, argument((struct call *)given, i)->at, s->len);
+            b[at] ^= (uint8_t)(1 << bit);
+            *s = (struct slice){b, s->len};
+            check(&c);
+        }
+}
+
 static void vary_buffer(const struct call *given)
 {
     struct call c = *given;
@@ -133,6 +149,8 @@ static void vary(const struct call *c, uint32_t p)
         vary_length(c, i);
         vary_header(c, i);
         vary_numbers(c, i, p);
+        if (compares(c->verb))
+            vary_bytes(c, i);
     }
     if (writes(c->verb))
         vary_buffer(c);
@@ -160,13 +178,13 @@ static void run_sample(const struct sample *s)
     static const uint32_t kinds[5] = {0, 11, 21, 22, 31};
     static uint8_t list[6 * C34_BUFFER], fractions[C34_FRACTIONS_LENGTH];
     struct slice all = {list, make_list(s, list)};
-    for (int v = 0; v < VERBS; v++)
-        for (int i = 0; i < (v == CHECK_CURVE || takes_list((enum verb)v) ? 1 : 5); i++) {
-            struct call c = {.verb = (enum verb)v, .curve = slice_of_curve(s), .n = -3, .kind = kinds[4], .p = s->k.p};
+    for (enum verb v = 0; v < VERBS; v++)
+        for (int i = 0; i < (v == CHECK_CURVE || takes_list(v) ? 1 : compares(v) ? 10 : 5); i++) {
+            struct call c = {.verb = v, .curve = slice_of_curve(s), .n = -3, .kind = kinds[4], .p = s->k.p};
             if (c.verb == REDUCE_CURVE)
                 c.curve = (struct slice){fractions, put_fractions(s, fractions)};
-            c.a = takes_list(c.verb) ? all : slice_of_record(of_kind(s, kinds[i]));
-            c.b = slice_of_record(of_kind(s, kinds[4 - i]));
+            c.a = takes_list(c.verb) ? all : slice_of_record(of_kind(s, kinds[i % 5]));
+            c.b = slice_of_record(of_kind(s, kinds[i < 5 ? 4 - i : i - 5])); /* from i = 5 on the same record as a */
             c.out_len = least_buffer(c.verb);
             vary(&c, s->k.p);
         }
@@ -238,20 +256,83 @@ static void run_lists(const struct sample *s)
         check(&c);
 }
 
-/* Points that differ in one byte only are not the same, whichever byte it is. */
-static void run_compare(void)
+/* Records that agree before a number and differ in one byte of it, whichever number and byte it is. */
+static void run_bytes(void)
 {
-    static struct sample s;
-    for (int i = 0; i < 8; i++) {
-        uint32_t step = 1u << (8 * (i % 4)), x[3] = {1000, 1000, 7}, y[3] = {2000, 2000, 8};
-        (i < 4 ? x : y)[1] += step;
-        make_sample_through(&s, 2147483647, x, y, 4);
-        struct call c = {.verb = COMPARE, .curve = slice_of_curve(&s)};
-        c.a = slice_of_record(&s.point[0]);
-        c.b = slice_of_record(&s.point[1]);
-        check(&c);
-        require(by_library(&c) == 0, "two points are the same", &c);
+    static const uint32_t kinds[4] = {11, 21, 22, 31};
+    static struct pair q;
+    for (int i = 0; i < 4; i++)
+        for (int n = 0; n < 4 * numbers_of(kinds[i]); n++) {
+            make_pair(&q, kinds[i], (unsigned)n / 4, (unsigned)n % 4);
+            struct call c = {.verb = COMPARE, .curve = {q.curve, sizeof q.curve}};
+            c.a = slice_of_record(&q.a);
+            c.b = slice_of_record(&q.b);
+            check(&c);
+            require(by_library(&c) == 0, "two records that differ in a byte are the same", &c);
+            c.verb = COMPARE_WORDS;
+            check(&c);
+            require(by_library(&c) == n / 4 + 2, "the first words that differ are others", &c);
+        }
+}
+
+enum { CLASSES = 198 }; /* no curve of genus 3 over F_2 has more: the sixth power of 1 + sqrt(2) is below 198 */
+
+/* The accepted records on a curve over F_2; their number is returned. */
+static unsigned all_records(const struct curve *k, struct record *r)
+{
+    static const uint32_t kinds[5] = {0, 11, 21, 22, 31};
+    unsigned count = 0;
+    for (int i = 0; i < 5; i++)
+        for (uint32_t bits = 0; bits >> numbers_of(kinds[i]) == 0; bits++) {
+            struct record one;
+            uint32_t numbers[9];
+            for (int j = 0; j < 9; j++)
+                numbers[j] = bits >> j & 1;
+            one.len = put_record(one.b, kinds[i], numbers);
+            if (is_basis(k, one.b)) {
+                require(count < CLASSES, "more records are accepted than there can be classes", NULL);
+                r[count++] = one;
+            }
+        }
+    return count;
+}
+
+/* Both comparisons of two accepted records; the number of pairs of words is returned. */
+static int32_t compare(struct slice curve, struct slice a, struct slice b)
+{
+    static const enum verb verbs[2] = {COMPARE, COMPARE_WORDS};
+    static const uint8_t nothing[1];
+    int32_t expected = 0;
+    for (int i = 0; i < 2; i++) {
+        struct call c = {.verb = verbs[i], .curve = curve, .a = a, .b = b};
+        expected = answer_of(&c);
+        check_at(&c, AT_END, expected, nothing);
+        check_at(&c, AT_FRONT, expected, nothing);
     }
+    return expected;
+}
+
+/* All pairs of accepted records on every curve over F_2: some differ first in the first word, some in the second, up to
+   the tenth. */
+static void run_pairs(void)
+{
+    static struct record r[CLASSES];
+    uint8_t curve[C34_CURVE_LENGTH];
+    long differ[11] = {0};
+    for (uint32_t bits = 0; bits < 512; bits++) {
+        struct curve k = {2, {0}};
+        for (int i = 0; i < 9; i++)
+            k.c[i] = bits >> i & 1;
+        put_curve(curve, k.p, k.c);
+        unsigned count = nonsingular(&k) ? all_records(&k, r) : 0;
+        for (unsigned i = 0; i < count * count; i++) {
+            struct slice a = slice_of_record(&r[i / count]), b = slice_of_record(&r[i % count]);
+            int32_t words = compare((struct slice){curve, sizeof curve}, a, b);
+            differ[words] += i / count != i % count;
+        }
+    }
+    for (int words = 1; words <= 10; words++)
+        require(differ[words] > 0, "no two records over F_2 differ first in some word", NULL);
 }
 
 /* A null pointer with length 0 is an empty slice; so is, for the archive itself, a pointer behind the last byte. */
@@ -263,6 +344,10 @@ static void run_null(const struct sample *s)
     uint32_t p = s->k.p;
     require(c34_check_curve(NULL, 0) == -1 && c34_check_divisor(NULL, 0, a, al) == -1, "null curve", NULL);
     require(c34_check_divisor(k, kl, NULL, 0) == -6 && c34_compare(k, kl, a, al, NULL, 0) == -6, "null divisor", NULL);
+    require(c34_compare_words(NULL, 0, a, al, a, al) == -1, "null curve of two divisors", NULL);
+    require(c34_compare_words(k, kl, NULL, 0, a, al) == -6, "null first divisor of two", NULL);
+    require(c34_compare_words(k, kl, a, al, NULL, 0) == -6, "null second divisor of two", NULL);
+    require((c34_compare_words)(k, kl, a, al, a + al, 0) == -6, "empty divisor behind the last byte", NULL);
     require(c34_sum(k, kl, NULL, 0, a, al, out, 40) == -6, "null first divisor", NULL);
     require(c34_sum(k, kl, a, al, NULL, 0, out, 40) == -6, "null second divisor", NULL);
     require(c34_sum(k, kl, a, al, a, al, NULL, 0) == -10, "null result of a sum", NULL);
@@ -294,7 +379,8 @@ int main(void)
         if (primes[i] == 5)
             run_headers(&s);
     }
-    run_compare();
+    run_bytes();
+    run_pairs();
     printf("guard: %ld calls between guard pages agree\n", calls);
     return 0;
 }

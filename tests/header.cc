@@ -10,6 +10,8 @@ int main()
         return 1;
     if (c34_reduce_curve(nullptr, 0, 5, nullptr, 0) != -C34_REFUSED_FRACTIONS)
         return 1;
+    if (c34_compare_words(nullptr, 0, nullptr, 0, nullptr, 0) != -C34_REFUSED_CURVE_LENGTH)
+        return 1;
     std::puts("header: usable from C++");
     return 0;
 }

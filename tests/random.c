@@ -1,19 +1,21 @@
 /* Random and mutated inputs, from a fixed seed: the library against the independent implementation.
    random [ACCEPTED] [MUTATED]: so many accepted calls, then so many mutated ones. */
+#include "pairs.h"
 #include "sample.h"
 #include <stdio.h>
 #include <stdlib.h>
 #include <string.h>
 
-enum { SAMPLES = 40, LIST_ROOM = 4096, OUT_ROOM = 128, FILL = 0x5A, REFUSALS = 13 };
+enum { SAMPLES = 40, LIST_ROOM = 4096, OUT_ROOM = 128, FILL = 0x5A, REFUSALS = 13, WORDS = 10, ALIKE = 18 };
 
 static const uint32_t primes[] = {2,  2,  2,   3,   3,    3,     5,         5,          7,
                                   11, 13, 101, 251, 1009, 65521, 268435399, 2147483629, 2147483647};
 
 static struct sample sample[SAMPLES];
+static struct pair alike[ALIKE]; /* one for each number of each kind */
 static uint8_t given[3][LIST_ROOM + 64]; /* the bytes of curve, or fractions, of a and of b */
 static struct call c;
-static long refused[REFUSALS + 1], accepted[VERBS], made;
+static long refused[REFUSALS + 1], accepted[VERBS], compared[WORDS + 1], made;
 
 /* ---- an accepted call ---- */
 
@@ -33,6 +35,15 @@ static void lend_list(const struct sample *s)
         n += r->len;
     }
     c.a = (struct slice){given[1], n};
+}
+
+/* Two random records mostly differ in the first or the second word; these may agree in more. */
+static void lend_alike(void)
+{
+    const struct pair *q = &alike[random_below(ALIKE)];
+    lend(0, (struct slice){q->curve, sizeof q->curve}, &c.curve);
+    lend(1, slice_of_record(&q->a), &c.a);
+    lend(2, slice_of_record(&q->b), &c.b);
 }
 
 static int64_t random_multiplier(void)
@@ -89,6 +100,8 @@ static void compare(int32_t e)
         refused[-want]++;
     else
         accepted[c.verb]++;
+    if (want > 0 && c.verb == COMPARE_WORDS)
+        compared[want]++;
 }
 
 /* ---- mutations ---- */
@@ -216,19 +229,34 @@ static void run_mutated(void)
     }
 }
 
+static void make_alike(void)
+{
+    static const uint32_t kinds[4] = {11, 21, 22, 31};
+    struct pair *q = alike;
+    for (int i = 0; i < 4; i++)
+        for (int n = 0; n < numbers_of(kinds[i]); n++)
+            make_pair(q++, kinds[i], (unsigned)n, random_below(4));
+}
+
 int main(int argc, char **argv)
 {
     long full = argc > 1 ? atol(argv[1]) : 20000, mutated = argc > 2 ? atol(argv[2]) : 2000000, sums = 0;
     seed(20261115);
     for (unsigned i = 0; i < SAMPLES; i++)
         make_sample(&sample[i], primes[i % (sizeof primes / sizeof *primes)], RECORDS);
+    make_alike();
     for (long i = 0; i < full; i++) {
         make_call(random_sample());
+        if (compares(c.verb) && random_below(3) == 0)
+            lend_alike();
         compare(refusal_of(&c));
     }
     for (int v = 0; v < VERBS; v++)
         sums += writes((enum verb)v) ? accepted[v] : 0;
-    printf("random: %ld accepted calls agree, %ld of them give a record\n", full, sums);
+    printf("random: %ld accepted calls agree, %ld of them give a record; pairs of words, 1 to %d:", full, sums, WORDS);
+    for (int n = 1; n <= WORDS; n++)
+        printf(" %ld", compared[n]);
+    printf("\n");
     made = 0;
     while (made < mutated)
         run_mutated();
@@ -238,5 +266,7 @@ int main(int argc, char **argv)
     printf("\n");
     for (int e = 1; e <= REFUSALS; e++)
         require(refused[e] > 0 || e == C34_REFUSED_LIST_LIMIT, "a refusal was never met", NULL);
+    for (int n = 1; n <= WORDS; n++)
+        require(compared[n] > 0, "a number of words was never met", NULL);
     return 0;
 }

@@ -228,7 +228,9 @@ static void random_coefficients(struct curve *k)
         k->c[i] = short_form && i > 4 && i != 7 ? 0 : random_below(k->p);
 }
 
-void make_sample_through(struct sample *s, uint32_t p, const uint32_t x[3], const uint32_t y[3], unsigned records)
+/* A random curve through three points that are not on a line. */
+static void make_sample_through(struct sample *s, uint32_t p, const uint32_t x[3], const uint32_t y[3],
+                                unsigned records)
 {
     struct curve k = {p, {0}};
     do

@@ -30,8 +30,6 @@ struct slice slice_of_record(const struct record *r);
 
 /* For a large p the curve is laid through three random points; for a small one points are searched. */
 void make_sample(struct sample *s, uint32_t p, unsigned records);
-/* A random curve through three points that are not on a line. */
-void make_sample_through(struct sample *s, uint32_t p, const uint32_t x[3], const uint32_t y[3], unsigned records);
 
 const struct record *of_kind(const struct sample *s, uint32_t kind);
 /* Has it a record of each of the kinds 11, 21, 22 and 31? */

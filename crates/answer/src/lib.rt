@@ -1,10 +1,9 @@
-// The nine calls. Each reads the curve, makes its ground, has the work done on it, and returns what the call is for or minus the number of the
-// first cause of refusal.
+// Eight of the nine calls of document 01; the comparison is in the crate `comparison`. Each reads the curve, makes its ground, has the work
+// done on it, and returns what the call is for or minus the number of the first cause of refusal.
 use lists::TallyAnswer;
 use reader::CurveAnswer;
 use reader::DivisorAnswer;
-use reader::TwoAnswer;
-ghost use Rattle.calls.specs.Call.{CheckCurve, CheckDivisor, Sum, Double, Negative, Multiple, ListSum, Compare, Count};
+ghost use Rattle.calls.specs.Call.{CheckCurve, CheckDivisor, Sum, Double, Negative, Multiple, ListSum, Count};
 
 // 1 for an accepted curve.
 pub fn check_curve(curve: &[u8]) -> i32
@@ -105,24 +104,6 @@ pub fn list_sum(curve: &[u8], list: &[u8], out: &mut [u8]) -> i32
             let g = ground::of(e);
             let found = lists::list_sum_on(g, list);
             reply::written(found, out)
-        }
-        CurveAnswer::Refused(n) => reply::refusal(n),
-    }
-}
-
-// 1 if two divisors have the same bytes, else 0.
-pub fn compare(curve: &[u8], a: &[u8], b: &[u8]) -> i32
-    ensures { λ r. ⌜ Compare (now (curve .entry)) (now (a .entry)) (now (b .entry)) r ⌝ }
-{
-    let read = reader::read_curve(curve);
-    match read {
-        CurveAnswer::Curve(e) => {
-            let g = ground::of(e);
-            let next = reader::read_two(g, a, b);
-            match next {
-                TwoAnswer::Two(_, _) => { if layout::same_bytes(a, b) { 1 } else { 0 } }
-                TwoAnswer::Refused(n) => reply::refusal(n),
-            }
         }
         CurveAnswer::Refused(n) => reply::refusal(n),
     }

@@ -1,6 +1,6 @@
 // The calls of the host. Each takes slices and numbers, checks them in the documents' order and returns a signed number:
 // minus the number of the refusal, or what the call is for.
-ghost use Rattle.calls.specs.Call.{CheckCurve, CheckDivisor, Sum, Double, Negative, Multiple, ListSum, Compare, Count, ReduceCurve};
+ghost use Rattle.calls.specs.Call.{CheckCurve, CheckDivisor, Sum, Double, Negative, Multiple, ListSum, Compare, Count, ReduceCurve, CompareWords};
 
 // 1 for an accepted curve.
 #[no_mangle]
@@ -63,7 +63,7 @@ pub extern "C" fn c34_list_sum(curve: &[u8], list: &[u8], out: &mut [u8]) -> i32
 pub extern "C" fn c34_compare(curve: &[u8], a: &[u8], b: &[u8]) -> i32
     ensures { λ r. ⌜ Compare (now (curve .entry)) (now (a .entry)) (now (b .entry)) r ⌝ }
 {
-    answer::compare(curve, a, b)
+    comparison::compare(curve, a, b)
 }
 
 // How many divisors of a list have the kind.
@@ -80,4 +80,12 @@ pub extern "C" fn c34_reduce_curve(fractions: &[u8], p: u32, out: &mut [u8]) -> 
     ensures { λ r. ⌜ ReduceCurve (now (fractions .entry)) p (now (out .entry)) r (now (out .exit)) ⌝ }
 {
     fractions::reduce_curve(fractions, p, out)
+}
+
+// How many pairs of words of two divisors are compared.
+#[no_mangle]
+pub extern "C" fn c34_compare_words(curve: &[u8], a: &[u8], b: &[u8]) -> i32
+    ensures { λ r. ⌜ CompareWords (now (curve .entry)) (now (a .entry)) (now (b .entry)) r ⌝ }
+{
+    comparison::compare_words(curve, a, b)
 }

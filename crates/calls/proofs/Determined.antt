@@ -1,5 +1,5 @@
 -- Each input of a call has at most one answer: what it returns and the bytes that it leaves.
---   check-curve-determined, check-divisor-determined, compare-determined, count-determined     calls that write nothing
+--   check-curve-determined, check-divisor-determined, compare-determined, words-determined, count-determined   calls that write nothing
 --   sum-determined, double-determined, negative-determined, multiple-determined, list-determined, reduce-determined   calls that write
 use mathlib.Core.Path.{_≡_, sym, _∙_, ap, subst}
 use mathlib.Core.Logic.{_⊎_, inl, inr}
@@ -14,7 +14,7 @@ use Rattle.record.proofs.Cause.{passes-append}
 use Rattle.record.proofs.Lists.{curve-sound, listed-once}
 use Rattle.record.proofs.Fractions.{fractions-sound, reduced-one}
 use Rattle.calls.specs.Class.{IsListSum}
-use Rattle.calls.specs.Call.{CheckCurve, CheckDivisor, Sum, Double, Negative, Multiple, ListSum, Compare, Count, ReduceCurve, divisor-of, list-of, room, tally}
+use Rattle.calls.specs.Call.{CheckCurve, CheckDivisor, Sum, Double, Negative, Multiple, ListSum, Compare, Count, ReduceCurve, CompareWords, divisor-of, list-of, room, tally}
 use Rattle.calls.proofs.Class.{Accepted, sum-one, negative-one}
 use Rattle.calls.proofs.Multiples.{list-one, multiple-one}
 use Rattle.calls.proofs.Answers.{one-sound, two-sound, list-of-sound, writes-one, returns-one}
@@ -36,6 +36,10 @@ compare-one a b r s (inr (n, q)) (inr (n′, q′)) = q ∙ sym q′
 pub compare-determined : (c a b : List ℕ) (r s : ℤ) → Compare c a b r → Compare c a b s → r ≡ s
 compare-determined c a b r s h k =
     returns-one (curve-stages c ++ divisor-of c a ++ divisor-of c b) (two-sound c a b) (λ r s p. compare-one a b r s) h k
+
+pub words-determined : (c a b : List ℕ) (r s : ℤ) → CompareWords c a b r → CompareWords c a b s → r ≡ s
+words-determined c a b r s h k =
+    returns-one (curve-stages c ++ divisor-of c a ++ divisor-of c b) (two-sound c a b) (λ r s p e e′. e ∙ sym e′) h k
 
 pub count-determined : (c s : List ℕ) (kind : ℕ) (r t : ℤ) → Count c s kind r → Count c s kind t → r ≡ t
 count-determined c s kind r t h k = returns-one (curve-stages c ++ list-of c s) (list-of-sound c s) (λ r t p. one r t) h k

@@ -2,6 +2,7 @@
 --   curve-accepted, divisor-accepted   an accepted input is not refused: a check of it returns 1
 --   plus-zero              a plus the zero record writes a: sums are not always zero, and the buffer is written
 --   compare-self           a record and itself: the comparison says yes
+--   words-self, words-kinds    document 02, 2026-03: a record and itself, all words are compared; records of different kinds, one pair
 --   list-pair              the list call on two records gives what the sum call gives: no record is skipped
 --   count-all              a count is the number of the list's records of that kind
 --   no-call                with one record or none, no call can be made
@@ -9,10 +10,13 @@
 use mathlib.Core.Path.{_≡_, refl, sym, _∙_, ap, subst}
 use mathlib.Core.Logic.{_⊎_, inl, inr}
 use mathlib.Core.List.{List, [], _∷_, _++_}
-use Prim.Native.Nat.{ℕ, _<_, _≤_}
+use Prim.Native.Nat.{ℕ, _/_, _<_, _≤_}
 use native.Mathlib.Omega.{arith}
 use lib.ListN.{length, drop, length-append}
 use lib.IntN.{ℤ, pos}
+use Rattle.layout.specs.Layout.{number2}
+use Rattle.words.specs.Words.{words}
+use Rattle.words.proofs.Compared.{length-words, compared-self, compared-kinds}
 use Rattle.record.specs.Cause.{Stage, Passes}
 use Rattle.record.specs.Curve.{modulus, equation, curve-stages, AcceptedCurve}
 use Rattle.record.specs.Listed.{joined, Listed, list-limit}
@@ -20,7 +24,7 @@ use Rattle.record.proofs.Cause.{AllSound, passes-refuses}
 use Rattle.record.proofs.Lists.{curve-sound, listed-once}
 use Rattle.calls.specs.Answer.{Gives, Returns, refused, answered}
 use Rattle.calls.specs.Class.{Ring, Record, zero-record, ReducedOf, IsSum, IsNegative, IsListSum}
-use Rattle.calls.specs.Call.{CheckCurve, CheckDivisor, Sum, ListSum, Compare, Count, divisor-of, list-of, room, tally}
+use Rattle.calls.specs.Call.{CheckCurve, CheckDivisor, Sum, ListSum, Compare, Count, CompareWords, divisor-of, list-of, room, tally}
 use Rattle.calls.specs.Pool.{PoolCall, IsCall, PoolEnd}
 use Rattle.calls.proofs.Class.{Accepted, zero-accepted, sum-one, sum-comm, zero-neutral}
 use Rattle.calls.proofs.Multiples.{list-one, list-append, list-single}
@@ -60,6 +64,16 @@ module _ (c : List ℕ) (A : AcceptedCurve c) where
       go : ((a ≡ a) × (r ≡ pos 1)) ⊎ ((¬ (a ≡ a)) × (r ≡ pos 0)) → r ≡ pos 1
       go (inl (e, q)) = q
       go (inr (n, q)) = absurd (n refl)
+
+  pub words-self : (a : List ℕ) (r : ℤ) → Accepted c a → CompareWords c a a r → r ≡ pos (length a / 4)
+  words-self a r p h =
+      returned (curve-stages c ++ divisor-of c a ++ divisor-of c a) (two-sound c a a) (two-passes c A a a p p) h
+      ∙ ap pos (compared-self (words a) ∙ length-words a)
+
+  pub words-kinds : (a b : List ℕ) (r : ℤ) → Record c a → Record c b → ¬ (number2 a 2 ≡ number2 b 2) → CompareWords c a b r → r ≡ pos 1
+  words-kinds a b r (f, p) (g, q) d h =
+      returned (curve-stages c ++ divisor-of c a ++ divisor-of c b) (two-sound c a b) (two-passes c A a b p q) h
+      ∙ ap pos (compared-kinds a b f (p .0 .0) g (q .0 .0) d)
 
   pub count-all : (s : List ℕ) (rs : List (List ℕ)) (kind : ℕ) (r : ℤ) → length s ≤ list-limit → Listed (modulus c) (equation c) s rs
       → Count c s kind r

@@ -8,6 +8,7 @@
 --   Multiple c a n out r out′    ListSum c s out r out′
 --   Compare c a b r              Count c s kind r
 --   ReduceCurve s p out r out′   document 02, 2026-01
+--   CompareWords c a b r         document 02, 2026-03
 use mathlib.Core.Path.{_≡_}
 use mathlib.Core.Logic.{_⊎_}
 use mathlib.Core.List.{List, [], _∷_, _++_}
@@ -17,6 +18,7 @@ use lib.ListN.{length}
 use lib.IntN.{ℤ, pos}
 use lib.Dec.{eqb}
 use Rattle.layout.specs.Layout.{number2}
+use Rattle.words.specs.Words.{words, compared}
 use Rattle.record.specs.Cause.{Stage, must}
 use Rattle.record.specs.Curve.{curve-size, modulus, equation, curve-stages}
 use Rattle.record.specs.Divisor.{divisor-stages}
@@ -84,3 +86,8 @@ Count c s kind =
 -- "The result buffer needs 44 bytes", the length of the curve record.
 abbrev pub ReduceCurve : (s : List ℕ) (p : ℕ) (out : List ℕ) → ℤ → List ℕ → Type 0
 ReduceCurve s p out = Writes curve-size (fractions-stages s p) (AcceptedReduced s p) out
+
+-- "A second call with the same inputs and refusals returns how many pairs of words are compared".
+abbrev pub CompareWords : (c a b : List ℕ) → ℤ → Type 0
+CompareWords c a b =
+    Returns (curve-stages c ++ divisor-of c a ++ divisor-of c b) (λ r. r ≡ pos (compared (words a) (words b)))

@@ -1,10 +1,9 @@
-// The bytes of a record: reading little-endian numbers in a slice of bytes, and comparing two slices.
+// The bytes of a record: reading little-endian numbers in a slice of bytes.
 // specs/Layout.antt says what the numbers and the bytes are.
 ghost use mathlib.Core.Path.{_≡_};
 ghost use Prim.Native.Nat.{_+_, _≤_, _<_};
 ghost use lib.ListN.{getD};
 ghost use Rattle.layout.specs.Contracts.{Read2, Read4};
-ghost use Rattle.algebra.specs.Answers.{Answers};
 
 // A byte as a wider number.
 fn wide(b: u8) -> u32
@@ -35,21 +34,4 @@ pub fn read_u32(s: &[u8], at: usize) -> u32
     ensures { λ r. ⌜ Read4 (now (s .entry)) at r ⌝ }
 {
     byte(s, at) + 256 * byte(s, at + 1) + 65536 * byte(s, at + 2) + 16777216 * byte(s, at + 3)
-}
-
-// Whether a and b are the same bytes.
-pub fn same_bytes(a: &[u8], b: &[u8]) -> bool
-    ensures { λ r. ⌜ Answers (now (a .entry) ≡ now (b .entry)) r ⌝ }
-{
-    if a.len() != b.len() {
-        return false;
-    }
-    let mut i = 0;
-    while i < a.len() {
-        if a[i] != b[i] {
-            return false;
-        }
-        i += 1;
-    }
-    true
 }

@@ -5,7 +5,8 @@ fn say(n: u64) {
 }
 
 fn say_same(a: &[u8], b: &[u8]) {
-    if layout::same_bytes(a, b) {
+    let walk = words::compare(a, b);
+    if walk.same {
         io::write_all(1, b"same\n");
     } else {
         io::write_all(1, b"other\n");

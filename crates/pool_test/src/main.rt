@@ -86,7 +86,8 @@ fn trial(calls: &[u32])
     }
     let mut sum = [0u8; 40];
     let n = list_sum(&mut sum);
-    if layout::same_bytes(&s[0..n], &sum[0..n]) {
+    let walk = words::compare(&s[0..n], &sum[0..n]);
+    if walk.same {
         print_line(1, b" left, equal to the list sum\n");
         return;
     }

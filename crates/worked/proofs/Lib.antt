@@ -11,3 +11,4 @@ pub mod Certificates
 pub mod Worked
 pub mod Fractions
 pub mod Points
+pub mod Words

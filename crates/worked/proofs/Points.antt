@@ -2,6 +2,7 @@
 -- points (1, 2) and (2, 2) is 21: 3 0 2 2.
 --   copies-written     points_of writes n copies of a point
 --   double-inside      y + 1 and x² lie inside the square of the ideal of (0, 4)
+--   sum-row            the row of (1, 2) + (2, 2) in the table of document 01
 --   double-has, points-of-two      the examples hold by the definitions, and the calls answer accordingly
 -- double-inside: the ideal holds x and y + 1, and y + 1 = 3x²·x·x + (3y + 4)·(y + 1)·(y + 1), as a test finds modulo 5 and F.
 use mathlib.Core.Path.{_≡_, refl, sym, _∙_, ap, subst}
@@ -64,7 +65,7 @@ module _ (c : List ℕ) (A : AcceptedCurve c) (d : List ℕ) (a : Accepted c d) 
 double-row : AcceptedCurve E × Record E P × IsSum E P P double-point
 double-row = worked .1 .1 .1 .1 .1 .1 .1 .1 .0 .0
 
-sum-row : AcceptedCurve E × Record E one-two × Record E (divisor k11 (3 ∷ 3 ∷ [])) × IsSum E one-two (divisor k11 (3 ∷ 3 ∷ [])) two-points
+pub sum-row : AcceptedCurve E × Record E one-two × Record E (divisor k11 (3 ∷ 3 ∷ [])) × IsSum E one-two (divisor k11 (3 ∷ 3 ∷ [])) two-points
 sum-row = worked .1 .1 .1 .1 .1 .0 .0
 
 accepted-E : AcceptedCurve E

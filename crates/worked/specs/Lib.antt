@@ -2,3 +2,4 @@
 pub mod Table
 pub mod Fractions
 pub mod Points
+pub mod Words

@@ -1,4 +1,4 @@
--- `layout::same_bytes` meets its contract. The loop's invariant: the bytes before place i agree.
+-- `bench_words::same_bytes` meets its contract. The loop's invariant: the bytes before place i agree.
 use Prim.Native.Nat.{ℕ, _≤_, _<_, _-_}
 use mathlib.Core.Path.{_≡_, ap}
 use native.Mathlib.Omega.{arith}
@@ -8,8 +8,8 @@ use lib.Seq.{ext-getD}
 use lib.ListN.{length, getD}
 use borrow.Author.Needs.{needs}
 use borrow.Author.Count.{below-more}
-use Rattle.layout.proofs.same_bytes.Statement.{statement}
-use Rattle.layout.proofs.same_bytes.Tie as tie
+use Rattle.bench_words.proofs.same_bytes.Statement.{statement}
+use Rattle.bench_words.proofs.same_bytes.Tie as tie
 
 abbrev Inv-loop : tie.InvT-loop
 Inv-loop a b i₀ i = (i ≤ length a) × ((k : ℕ) → k < i → getD a k 0 ≡ getD b k 0)

@@ -1,0 +1,2 @@
+-- What the walks say.
+pub mod Contract

@@ -1,0 +1,2 @@
+-- What a walk over two divisors meets.
+pub mod Walks
