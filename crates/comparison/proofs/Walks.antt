@@ -11,7 +11,6 @@ use lib.ListN.{length}
 use Rattle.algebra.proofs.Answers.{answer-from}
 use Rattle.divisor.specs.Kind.{size}
 use Rattle.divisor.proofs.Codes.{count-small}
-use Rattle.layout.specs.Layout.{Bytes}
 use Rattle.words.specs.Words.{words}
 use Rattle.words.specs.Contract.{WalkOf}
 use Rattle.words.specs.declared.Walk.{Walk}
@@ -19,19 +18,18 @@ use Rattle.words.proofs.Compared.{compared-most, length-words, same-words}
 use Rattle.basis.specs.declared.Divisor.{Divisor}
 use Rattle.record.specs.Cause.{FirstCause}
 use Rattle.record.specs.Curve.{curve-stages, AcceptedCurve}
-use Rattle.record.proofs.Cause.{first-append, passes-append}
-use Rattle.record.proofs.Written.{length-bytes-of, bytes-bytes-of}
+use Rattle.record.proofs.Cause.{first-append}
+use Rattle.record.proofs.Written.{length-bytes-of}
 use Rattle.reader.specs.Reading.{GivenOn}
 use Rattle.calls.specs.Call.{divisor-of}
+use Rattle.calls.proofs.Exists.{two-passes}
+use Rattle.classes.proofs.Values.{given-record}
 use Rattle.comparison.specs.Met.{two-stages, Met, WalkRead}
 use Rattle.comparison.specs.declared.WalkAnswer.{WalkAnswer}
 use Rattle.comparison.specs.declared.WalkAnswer.the-variants as answer
 
 module _ (c : List ℕ) where
   module _ (s : List ℕ) {x : Divisor} (v : GivenOn c s x) where
-    given-bytes : Bytes s
-    given-bytes = subst Bytes (v .bytes) (bytes-bytes-of (v .kind) x)
-
     given-length : length s ≡ size (v .kind)
     given-length = ap length (sym (v .bytes)) ∙ length-bytes-of (v .kind) x
 
@@ -45,11 +43,9 @@ module _ (c : List ℕ) where
     pub met : {x y : Divisor} → AcceptedCurve c → GivenOn c a x × GivenOn c b y → (w : Walk) → WalkOf a b w → Met c a b w
     met A (v, u) w h =
         record {
-          passes =
-              passes-append (curve-stages c) (divisor-of c a ++ divisor-of c b) .1
-              (A, passes-append (divisor-of c a) (divisor-of c b) .1 (v .accepted, u .accepted));
+          passes = two-passes c A a b (v .accepted) (u .accepted);
           same =
-              answer-from (w .same) (h .same) (same-words a b (given-bytes a v) (given-whole a v) (given-bytes b u) (given-whole b u))
+              answer-from (w .same) (h .same) (same-words a b (given-record c a v .0) (given-whole a v) (given-record c b u .0) (given-whole b u))
               (ap words);
           count = h .count;
           few = omega (arith, h .count, compared-most (words a) (words b), length-words a, given-few a v);

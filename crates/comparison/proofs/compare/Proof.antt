@@ -2,10 +2,10 @@
 use mathlib.Core.Path.{refl, _∙_}
 use mathlib.Core.Logic.{inl, inr}
 use denote.Ref.{now}
+use borrow.Author.Needs.{needs}
 use Rattle.calls.specs.Answer.{refused, answered}
 use Rattle.reply.proofs.Number.{kept}
 use Rattle.comparison.proofs.Walks.{walk-met, walk-cause}
-use borrow.Author.Needs.{needs}
 use Rattle.comparison.proofs.compare.Statement.{statement}
 use Rattle.comparison.proofs.compare.Tie as tie
 

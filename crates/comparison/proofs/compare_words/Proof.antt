@@ -3,10 +3,10 @@ use mathlib.Core.Path.{ap, _∙_}
 use native.Mathlib.Omega.{arith}
 use lib.IntN.{pos}
 use denote.Ref.{now}
+use borrow.Author.Needs.{needs}
 use Rattle.calls.specs.Answer.{refused, answered}
 use Rattle.reply.proofs.Number.{pos-number, kept}
 use Rattle.comparison.proofs.Walks.{walk-met, walk-cause}
-use borrow.Author.Needs.{needs}
 use Rattle.comparison.proofs.compare_words.Statement.{statement}
 use Rattle.comparison.proofs.compare_words.Tie as tie
 

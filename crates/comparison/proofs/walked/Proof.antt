@@ -1,9 +1,9 @@
 -- The words are compared once the curve and both divisors are accepted.
 use denote.Ref.{now}
+use borrow.Author.Needs.{needs}
 use Rattle.reader.proofs.Ground.{curve-passes, curve-asked, curve-on, curve-cause, grounded-on}
 use Rattle.classes.proofs.Read.{pair-given, pair-refused}
 use Rattle.comparison.proofs.Walks.{met, curve-refused, divisor-refused}
-use borrow.Author.Needs.{needs}
 use Rattle.comparison.proofs.walked.Statement.{statement}
 use Rattle.comparison.proofs.walked.Tie as tie
 
