@@ -2,7 +2,8 @@
    is only read cannot be written. On such slices the library is held against the independent implementation on every
    truncation and lengthening of curve, fractions, records and lists, on wrong length and kind fields, on numbers and
    moduli at the borders of what is accepted, on result buffers of 0 to 60 bytes and on empty slices with a null
-   pointer; the comparisons also on records that differ in one byte, and on all pairs of records over F_2. */
+   pointer; the comparisons also on records that agree before a number and differ in one byte of it, and on all pairs of
+   records over F_2. */
 #include "pages.h"
 #include "pairs.h"
 #include "sample.h"

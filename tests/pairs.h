@@ -4,8 +4,8 @@
    pair        the curve and the two records
    make_pair   a random one, by the number, counted from 0, and the byte of it, counted from the lowest
 
-   After that number the two agree as well where that can be. No two records on a nonsingular curve differ in g0 alone
-   (kind 22), or in f0, g0, h0 or h1 alone (kind 31): there a later number differs too. */
+   After that number the two agree as well, but for g0 of kind 22 and f0, g0, h0 and h1 of kind 31: there a later number
+   differs too. */
 #ifndef PAIRS_H
 #define PAIRS_H
 #include "sample.h"
