@@ -1,6 +1,7 @@
 -- Each input of a call has at most one answer: what it returns and the bytes that it leaves.
 --   check-curve-determined, check-divisor-determined, compare-determined, words-determined, count-determined   calls that write nothing
---   sum-determined, double-determined, negative-determined, multiple-determined, list-determined, reduce-determined   calls that write
+--   sum-determined, common-part-determined, common-multiple-determined, double-determined, negative-determined, multiple-determined,
+--   list-determined, reduce-determined     calls that write
 use mathlib.Core.Path.{_≡_, sym, _∙_, ap, subst}
 use mathlib.Core.Logic.{_⊎_, inl, inr}
 use mathlib.Core.List.{List, _++_}
@@ -13,10 +14,12 @@ use Rattle.record.specs.Fractions.{fractions-stages}
 use Rattle.record.proofs.Cause.{passes-append}
 use Rattle.record.proofs.Lists.{curve-sound, listed-once}
 use Rattle.record.proofs.Fractions.{fractions-sound, reduced-one}
+use Rattle.calls.specs.Answer.{Writes}
 use Rattle.calls.specs.Class.{IsListSum}
-use Rattle.calls.specs.Call.{CheckCurve, CheckDivisor, Sum, Double, Negative, Multiple, ListSum, Compare, Count, ReduceCurve, CompareWords, divisor-of, list-of, room, tally}
+use Rattle.calls.specs.Call.{CheckCurve, CheckDivisor, Sum, Double, Negative, Multiple, ListSum, Compare, Count, ReduceCurve, CompareWords, CommonPart, CommonMultiple, divisor-of, list-of, room, tally}
 use Rattle.calls.proofs.Class.{Accepted, sum-one, negative-one}
 use Rattle.calls.proofs.Multiples.{list-one, multiple-one}
+use Rattle.calls.proofs.Parts.{part-one, common-multiple-one}
 use Rattle.calls.proofs.Answers.{one-sound, two-sound, list-of-sound, writes-one, returns-one}
 
 pub check-curve-determined : (c : List ℕ) (r s : ℤ) → CheckCurve c r → CheckCurve c s → r ≡ s
@@ -63,10 +66,23 @@ module _ (c out : List ℕ) where
   list-passed : (s : List ℕ) → Passes (curve-stages c ++ list-of c s) → AcceptedCurve c
   list-passed s p = passes-append (curve-stages c) (list-of c s) .0 p .0
 
-  pub sum-determined : (a b : List ℕ) (r s : ℤ) (out′ out″ : List ℕ) → Sum c a b out r out′ → Sum c a b out s out″ → (r ≡ s) × (out′ ≡ out″)
-  sum-determined a b r s out′ out″ =
-      writes-one (curve-stages c ++ divisor-of c a ++ divisor-of c b) (two-sound c a b) room out
-      (λ w w′ p. let q = two-passed a b p in sum-one c (q .0) a b w (q .1) (q .2) w′)
+  -- the calls on two divisors
+  module _ (a b : List ℕ) (r s : ℤ) (out′ out″ : List ℕ) where
+    two-determined : {Good : List ℕ → Type 0} → (AcceptedCurve c → Accepted c a → Accepted c b → (w w′ : List ℕ) → Good w → Good w′ → w ≡ w′)
+        → Writes room (curve-stages c ++ divisor-of c a ++ divisor-of c b) Good out r out′
+        → Writes room (curve-stages c ++ divisor-of c a ++ divisor-of c b) Good out s out″ → (r ≡ s) × (out′ ≡ out″)
+    two-determined one =
+        writes-one (curve-stages c ++ divisor-of c a ++ divisor-of c b) (two-sound c a b) room out
+        (λ w w′ p. let q = two-passed a b p in one (q .0) (q .1) (q .2) w w′)
+
+    pub sum-determined : Sum c a b out r out′ → Sum c a b out s out″ → (r ≡ s) × (out′ ≡ out″)
+    sum-determined = two-determined (λ A h k w w′. sum-one c A a b w h k w′)
+
+    pub common-part-determined : CommonPart c a b out r out′ → CommonPart c a b out s out″ → (r ≡ s) × (out′ ≡ out″)
+    common-part-determined = two-determined (λ A h k. part-one c A a b h k)
+
+    pub common-multiple-determined : CommonMultiple c a b out r out′ → CommonMultiple c a b out s out″ → (r ≡ s) × (out′ ≡ out″)
+    common-multiple-determined = two-determined (λ A h k. common-multiple-one c A a b h k)
 
   pub double-determined : (a : List ℕ) (r s : ℤ) (out′ out″ : List ℕ) → Double c a out r out′ → Double c a out s out″ → (r ≡ s) × (out′ ≡ out″)
   double-determined a r s out′ out″ =

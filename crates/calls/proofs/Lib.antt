@@ -1,4 +1,4 @@
--- Laws of the calls: classes of records, the answers of each call, adding by pairs.
+-- Laws of the calls: classes of records, the answers of each call, common parts and common multiples, adding by pairs.
 pub mod Places
 pub mod Together
 pub mod Class
@@ -6,6 +6,7 @@ pub mod Multiples
 pub mod Answers
 pub mod Values
 pub mod Exists
+pub mod Parts
 pub mod Determined
 pub mod Shut
 pub mod Step

@@ -9,6 +9,7 @@
 --   Compare c a b r              Count c s kind r
 --   ReduceCurve s p out r out′   document 02, 2026-01
 --   CompareWords c a b r         document 02, 2026-03
+--   CommonPart c a b out r out′  CommonMultiple c a b out r out′     document 02, 2026-04; the sum by the second road is Sum
 use mathlib.Core.Path.{_≡_}
 use mathlib.Core.Logic.{_⊎_}
 use mathlib.Core.List.{List, [], _∷_, _++_}
@@ -25,7 +26,7 @@ use Rattle.record.specs.Divisor.{divisor-stages}
 use Rattle.record.specs.Fractions.{AcceptedReduced, fractions-stages}
 use Rattle.record.specs.Listed.{Listed, list-stage, list-limit}
 use Rattle.calls.specs.Answer.{Writes, Returns}
-use Rattle.calls.specs.Class.{IsSum, IsNegative, IsMultiple, IsListSum}
+use Rattle.calls.specs.Class.{IsSum, IsNegative, IsMultiple, IsListSum, IsCommonPart, IsCommonMultiple}
 
 -- the divisor a on the curve c
 abbrev pub divisor-of : (c a : List ℕ) → List Stage
@@ -91,3 +92,10 @@ ReduceCurve s p out = Writes curve-size (fractions-stages s p) (AcceptedReduced 
 abbrev pub CompareWords : (c a b : List ℕ) → ℤ → Type 0
 CompareWords c a b =
     Returns (curve-stages c ++ divisor-of c a ++ divisor-of c b) (λ r. r ≡ pos (compared (words a) (words b)))
+
+-- Document 02, 2026-04: the common part and the common multiple, with the inputs and refusals of the sum.
+abbrev pub CommonPart : (c a b out : List ℕ) → ℤ → List ℕ → Type 0
+CommonPart c a b out = Writes room (curve-stages c ++ divisor-of c a ++ divisor-of c b) (IsCommonPart c a b) out
+
+abbrev pub CommonMultiple : (c a b out : List ℕ) → ℤ → List ℕ → Type 0
+CommonMultiple c a b out = Writes room (curve-stages c ++ divisor-of c a ++ divisor-of c b) (IsCommonMultiple c a b) out

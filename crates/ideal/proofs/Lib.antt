@@ -19,3 +19,4 @@ pub mod Span
 pub mod Triple
 pub mod Parts
 pub mod Invertible
+pub mod Swap

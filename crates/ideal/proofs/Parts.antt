@@ -4,6 +4,7 @@
 --   sum-same, intersection-same        sums and intersections of sets with the same elements
 --   sum-generated              lists one after the other generate the sum
 --   sum-based                  the sum of two based ideals is based
+--   colon-based-ideal          (f : K) is a based ideal with a nonzero element if K is, f in K
 --   colon-sum                  (f : I + J) = (f : I) ∩ (f : J)
 --   colon-intersection         (f : I) + (f : J) = (f : I ∩ J) for based ideals I and J and f in both
 --   intersection-based         … and I ∩ J is based
@@ -93,17 +94,17 @@ module _ {R : CommRing} (P : Poles R) where
         lead = (b .lead .0, sum-left R (c .ideal) (b .lead .1), b .lead .2);
       }
 
-  module _ {I J : Car → Type 0} {f : Car} {d : ℕ} (pf : HasPole P f d) (b : BasedIdeal P I) (c : BasedIdeal P J) (mi : I f) (mj : J f) where
-    colon-based-ideal : {K : Car → Type 0} → BasedIdeal P K → K f → BasedIdeal P (Colon R f K)
-    colon-based-ideal {K} k m = record {
-      ideal = colon-ideal R f K;
-      based = colon-based P pf (k .ideal) (k .based) m;
-      pole = d;
-      lead = (f, colon-self R f K, pf);
-    }
+  pub colon-based-ideal : {K : Car → Type 0} {f : Car} {d : ℕ} → HasPole P f d → BasedIdeal P K → K f → BasedIdeal P (Colon R f K)
+  colon-based-ideal {K} {f} {d} pf k m = record {
+    ideal = colon-ideal R f K;
+    based = colon-based P pf (k .ideal) (k .based) m;
+    pole = d;
+    lead = (f, colon-self R f K, pf);
+  }
 
+  module _ {I J : Car → Type 0} {f : Car} {d : ℕ} (pf : HasPole P f d) (b : BasedIdeal P I) (c : BasedIdeal P J) (mi : I f) (mj : J f) where
     total : BasedIdeal P (IdealSum R (Colon R f I) (Colon R f J))
-    total = sum-based (colon-based-ideal b mi) (colon-based-ideal c mj)
+    total = sum-based (colon-based-ideal pf b mi) (colon-based-ideal pf c mj)
 
     total-member : IdealSum R (Colon R f I) (Colon R f J) f
     total-member = sum-left R (colon-ideal R f J) (colon-self R f I)

@@ -28,7 +28,7 @@ pub fn product(
 }
 
 // The products of the members of t1 with one element, of which ys are the y-multiples, are put into the triple (t, d).
-fn insert_products(
+pub fn insert_products(
     p: u32,
     t1: &[[u32; 26]; 3],
     d1: &[usize; 3],

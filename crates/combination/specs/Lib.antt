@@ -1,0 +1,2 @@
+-- Combinations of the ideals of two divisors.
+pub mod Contract

@@ -1,0 +1,2 @@
+-- Common part and common multiple of two divisors by value.
+pub mod Contract

@@ -1,0 +1,2 @@
+-- Why the second road gives the sum.
+pub mod Steps
