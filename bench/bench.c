@@ -1,8 +1,10 @@
-/* Times of the parts of a sum and, in a build with -DCOUNT, their field operations: bench [SECONDS PER PART].
+/* Times of the parts of a sum, of common part, common multiple and sum by parts and, in a build with -DCOUNT, their
+   field operations: bench [SECONDS PER PART].
    p = 2147483647, a random curve through a random point, records of kind 31 that are multiples of the point. */
 #define _POSIX_C_SOURCE 199309L
 #include "calls.c"
 #include "field.h"
+#include "overlap.h"
 #include <stdio.h>
 #include <stdlib.h>
 #include <string.h>
@@ -103,6 +105,26 @@ static void do_double(int i)
     sink += twice(&c, &rec[i]).n[0];
 }
 
+static void do_common_part(int i)
+{
+    sink += common_part(&c, &rec[i], &rec[(i + 1) % RECORDS]).n[0];
+}
+
+static void do_common_multiple(int i)
+{
+    sink += common_multiple(&c, &rec[i], &rec[(i + 1) % RECORDS]).n[0];
+}
+
+static void do_sum_by_parts(int i)
+{
+    sink += sum_by_parts(&c, &rec[i], &rec[(i + 1) % RECORDS]).n[0];
+}
+
+static void do_double_by_parts(int i)
+{
+    sink += sum_by_parts(&c, &rec[i], &rec[i]).n[0];
+}
+
 static void do_prime(int i)
 {
     sink += (uint32_t)(is_prime(p) + i);
@@ -157,6 +179,10 @@ int main(int argc, char **argv)
     part("star of a record", do_star_record, s);
     part("sum", do_sum, s);
     part("double", do_double, s);
+    part("common part", do_common_part, s);
+    part("common multiple", do_common_multiple, s);
+    part("sum by parts", do_sum_by_parts, s);
+    part("sum by parts, a = b", do_double_by_parts, s);
     part("sum call, bytes in and out", do_call_sum, s);
     return 0;
 }

@@ -1,13 +1,15 @@
-/* Times of the eleven calls of libc34.a and of the same calls in C, by turns in one run on the same inputs, and ratios.
-   The parts of a call are differences of calls' times.
+/* Times of the fourteen calls of libc34.a and of the same calls in C, by turns in one run on the same inputs, and
+   ratios. The parts of a call are differences of calls' times. For the calls on what two divisors have in common there
+   are also ratios to the sum of the same two.
      calls_times [NS]       prints all tables; NS is Singular's time of a bare sum, left out where it is not known
      calls_times short      prints the tables without the sequences
-     calls_times parts      prints the table of the parts
+     calls_times parts      prints the table of the parts and that of the ratios to a sum
      calls_times singular   prints a Singular program that times bare sums of the same records and prints NS
    Every answer and every result buffer of the two sides must be equal. COMPILER names the compiler of the C side. */
 #define _POSIX_C_SOURCE 199309L
 #include "c34.h"
 #include "calls.c"
+#include "overlap_calls.c"
 #include "calls_sets.c"
 #include <time.h>
 
@@ -48,6 +50,11 @@ BOTH(count, CURVE, LIST, 31)
 BOTH(list_sum, CURVE, LIST, out, 40)
 BOTH(multiple, CURVE, RECORD(i), s->n[i % MULTIPLES], out, 40)
 BOTH(reduce_curve, s->fractions[i % RECORDS], 76, read_u32(s->curve + 4), out, 44)
+BOTH(common_part, CURVE, RECORD(i), RECORD(i + 1), out, 40)
+BOTH(common_multiple, CURVE, RECORD(i), RECORD(i + 1), out, 40)
+BOTH(sum_by_parts, CURVE, RECORD(i), RECORD(i + 1), out, 40)
+BOTH_AS(sum_equal, sum, CURVE, RECORD(i), RECORD(i), out, 40)
+BOTH_AS(by_parts_equal, sum_by_parts, CURVE, RECORD(i), RECORD(i), out, 40)
 /* What comes before the test whether the curve is singular. */
 BOTH_AS(refused_curve, check_curve, s->refused, s->curve_len)
 
@@ -63,6 +70,11 @@ enum {
     LIST_SUM,
     MULTIPLE,
     REDUCE_CURVE,
+    COMMON_PART,
+    COMMON_MULTIPLE,
+    SUM_BY_PARTS,
+    SUM_EQUAL,
+    BY_PARTS_EQUAL,
     REFUSED_CURVE,
     CALLS
 };
@@ -81,6 +93,9 @@ static const struct {
     {ROW(compare_words), RECORDS, 0},
     {ROW(count), 1, 0},             {ROW(list_sum), 1, 0},            {ROW(multiple), MULTIPLES, 0},
     {ROW(reduce_curve), RECORDS, 0},
+    {ROW(common_part), RECORDS, 0}, {ROW(common_multiple), RECORDS, 0}, {ROW(sum_by_parts), RECORDS, 0},
+    {"sum, a = b", {proved_sum_equal, plain_sum_equal}, RECORDS, 0},
+    {"sum_by_parts, a = b", {proved_by_parts_equal, plain_by_parts_equal}, RECORDS, 0},
     {"check_curve, refused with 4", {proved_refused_curve, plain_refused_curve}, RECORDS, -4},
 };
 
@@ -327,6 +342,18 @@ static void print_calls(void)
         print_row(row[k].name, at_large[k], at_small[k]);
 }
 
+/* A divisor's check. */
+static struct times check(const struct times a[CALLS])
+{
+    return over(plus(a[COUNT_KIND], -1, a[CHECK_CURVE]), LISTED);
+}
+
+/* A call on two divisors without its checks. */
+static struct times bare(const struct times a[CALLS], int k)
+{
+    return plus(plus(a[k], -1, a[CHECK_CURVE]), -2, check(a));
+}
+
 /* What follows from the times of the calls. */
 struct parts {
     struct times singular, check, star, sum, fractions;
@@ -336,9 +363,9 @@ static struct parts parts(const struct times a[CALLS])
 {
     struct parts t;
     t.singular = plus(a[CHECK_CURVE], -1, a[REFUSED_CURVE]);
-    t.check = over(plus(a[COUNT_KIND], -1, a[CHECK_CURVE]), LISTED);
+    t.check = check(a);
     t.star = plus(a[NEGATIVE], -1, a[CHECK_DIVISOR]);
-    t.sum = plus(plus(a[SUM], -1, a[CHECK_CURVE]), -2, t.check);
+    t.sum = bare(a, SUM);
     t.fractions = plus(a[REDUCE_CURVE], -1, a[CHECK_CURVE]);
     return t;
 }
@@ -366,6 +393,30 @@ static struct times print_parts(void)
            100 - 100 * t.sum.side[0] / a[SUM].side[0], 100 - 100 * t.sum.side[1] / a[SUM].side[1],
            100 - 100 * u.sum.side[0] / b[SUM].side[0], 100 - 100 * u.sum.side[1] / b[SUM].side[1]);
     return t.sum;
+}
+
+static void print_ratio(const char *name, struct times a, struct times a_sum, struct times b, struct times b_sum)
+{
+    printf("| %-34s | %9.2f | %9.2f | %9.2f | %9.2f |\n", name, a.side[0] / a_sum.side[0], a.side[1] / a_sum.side[1],
+           b.side[0] / b_sum.side[0], b.side[1] / b_sum.side[1]);
+}
+
+/* The calls on what two divisors have in common: their times over that of the sum of the same two divisors. */
+static void print_ratios(void)
+{
+    static const int of[4][2] = {
+        {COMMON_PART, SUM}, {COMMON_MULTIPLE, SUM}, {SUM_BY_PARTS, SUM}, {BY_PARTS_EQUAL, SUM_EQUAL}};
+    const struct times *a = at_large, *b = at_small;
+    printf("| %-34s | %9s | %9s | %9s | %9s |\n", "time over that of a sum", "proved", "C", "proved", "C");
+    printf("|---|---:|---:|---:|---:|\n");
+    for (int i = 0; i < 4; i++)
+        print_ratio(row[of[i][0]].name, a[of[i][0]], a[of[i][1]], b[of[i][0]], b[of[i][1]]);
+    for (int i = 0; i < 4; i++) {
+        char name[64];
+        snprintf(name, sizeof name, "%s, no checks", row[of[i][0]].name);
+        print_ratio(name, bare(a, of[i][0]), bare(a, of[i][1]), bare(b, of[i][0]), bare(b, of[i][1]));
+    }
+    printf("\n");
 }
 
 static void print_sequences(void)
@@ -415,7 +466,8 @@ int main(int argc, char **argv)
            COMPILER, ROUNDS, LISTED, operations(&large));
     if (strcmp(mode, "parts") != 0)
         print_calls();
-    struct times bare = print_parts();
+    struct times bare_sum = print_parts();
+    print_ratios();
     if (strcmp(mode, "short") == 0 || strcmp(mode, "parts") == 0)
         return 0;
     print_sequences();
@@ -423,7 +475,7 @@ int main(int argc, char **argv)
     if (atof(mode) > 0)
         printf("Singular, bare sums of the records on the left by the definitions, in one process, least of %d turns\n"
                "of %d sums: %.0f ns a sum, %.0f times the library's bare sum.\n\n",
-               SINGULAR_TURNS, SINGULAR_SUMS, atof(mode), atof(mode) / bare.side[0]);
+               SINGULAR_TURNS, SINGULAR_SUMS, atof(mode), atof(mode) / bare_sum.side[0]);
     else
         printf("Singular: not installed, no time of its sums.\n\n");
     return 0;

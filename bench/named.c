@@ -1,6 +1,7 @@
-/* The calls of calls.c and points_calls.c under the library's names, so that tests/vectors.c and tests/points.c make them
-   in place of the archives'. */
+/* The calls of calls.c, overlap_calls.c and points_calls.c under the library's names, so that tests/vectors.c and
+   tests/points.c make them in place of the archives'. */
 #include "calls.c"
+#include "overlap_calls.c"
 #include "points_calls.c"
 
 typedef const uint8_t *bytes;
@@ -38,6 +39,21 @@ int32_t c34_multiple(bytes c, size_t nc, bytes a, size_t na, int64_t n, uint8_t 
 int32_t c34_list_sum(bytes c, size_t nc, bytes list, size_t n, uint8_t *out, size_t room)
 {
     return base_list_sum(c, nc, list, n, out, room);
+}
+
+int32_t c34_common_part(bytes c, size_t nc, bytes a, size_t na, bytes b, size_t nb, uint8_t *out, size_t room)
+{
+    return base_common_part(c, nc, a, na, b, nb, out, room);
+}
+
+int32_t c34_common_multiple(bytes c, size_t nc, bytes a, size_t na, bytes b, size_t nb, uint8_t *out, size_t room)
+{
+    return base_common_multiple(c, nc, a, na, b, nb, out, room);
+}
+
+int32_t c34_sum_by_parts(bytes c, size_t nc, bytes a, size_t na, bytes b, size_t nb, uint8_t *out, size_t room)
+{
+    return base_sum_by_parts(c, nc, a, na, b, nb, out, room);
 }
 
 int32_t c34_compare(bytes c, size_t nc, bytes a, size_t na, bytes b, size_t nb)

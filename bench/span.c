@@ -176,6 +176,18 @@ int inside(uint32_t p, const uint32_t t[3][26], const unsigned d[3], const uint3
     return 1;
 }
 
+void add_product(const struct curve *c, uint32_t t[3][26], unsigned d[3], const uint32_t t1[3][26],
+                 const unsigned d1[3], const uint32_t v[26], unsigned top)
+{
+    uint32_t ys[3][26];
+    y_multiples(c->p, c->f, v, top, ys);
+    for (unsigned i = 0; i < 3; i++) {
+        uint32_t w[26];
+        times(c->p, t1[i], d1[i] + 1, ys, top, w);
+        insert(c->p, t, d, w, d1[i] + top);
+    }
+}
+
 /* Inserts b times each member of a triple of degrees d2, from the members' y-multiples, for monic b of degree db. */
 static void insert_products(uint32_t p, uint32_t t[3][26], unsigned d[3], const uint32_t b[26], unsigned db,
                             const uint32_t ys[3][3][26], const unsigned d2[3])

@@ -1,4 +1,4 @@
-/* Divisor class arithmetic on C34 curves over prime fields: the eleven calls of libc34.a, for C and C++.
+/* Divisor class arithmetic on C34 curves over prime fields: the fourteen calls of libc34.a, for C and C++.
 
    The curve is y^3 + x^4 + c8 xy^2 + c7 x^2y + c6 x^3 + c5 y^2 + c4 xy + c3 x^2 + c2 y + c1 x + c0 over the field of
    p elements, p a prime from 2 to 2147483647. A divisor class is named by its reduced divisor, which is one record.
@@ -121,6 +121,27 @@ int32_t c34_multiple(const uint8_t *curve, size_t curve_len, const uint8_t *a, s
 int32_t c34_list_sum(const uint8_t *curve, size_t curve_len, const uint8_t *list, size_t list_len, uint8_t *out,
                      size_t out_len);
 
+/* The common part of two divisors, their greatest common divisor: its ideal is the one that the polynomials of both
+   generate together, which is always that of a record.
+   Domain: any bytes. Result: the length of the record written. Refusals: 1 to 9, for a before b, then 10.
+   Buffer: the record of the common part at its start; the rest stays. */
+int32_t c34_common_part(const uint8_t *curve, size_t curve_len, const uint8_t *a, size_t a_len, const uint8_t *b,
+                        size_t b_len, uint8_t *out, size_t out_len);
+
+/* The common multiple of two divisors: the reduced divisor in the class of their least common multiple, whose ideal is
+   the intersection of the two ideals. The common multiple and the common part have the sum a + b.
+   Domain: any bytes. Result: the length of the record written. Refusals: 1 to 9, for a before b, then 10.
+   Buffer: the record of the common multiple at its start; the rest stays. */
+int32_t c34_common_multiple(const uint8_t *curve, size_t curve_len, const uint8_t *a, size_t a_len, const uint8_t *b,
+                            size_t b_len, uint8_t *out, size_t out_len);
+
+/* The sum of two divisor classes by common multiples and common parts, another algorithm than that of c34_sum. On the
+   same bytes both calls return the same and write the same.
+   Domain: any bytes. Result: the length of the record written. Refusals: 1 to 9, for a before b, then 10.
+   Buffer: the record of a + b at its start; the rest stays. */
+int32_t c34_sum_by_parts(const uint8_t *curve, size_t curve_len, const uint8_t *a, size_t a_len, const uint8_t *b,
+                         size_t b_len, uint8_t *out, size_t out_len);
+
 /* Whether two divisors have the same bytes, which is whether their classes are equal.
    Domain: any bytes. Result: 1 for yes, 0 for no. Refusals: 1 to 9, for a before b. Writes nothing. */
 int32_t c34_compare(const uint8_t *curve, size_t curve_len, const uint8_t *a, size_t a_len, const uint8_t *b,
@@ -173,6 +194,15 @@ static inline uint8_t *c34_written(uint8_t *bytes)
     (c34_multiple)(c34_read(curve), (curve_len), c34_read(a), (a_len), (n), c34_written(out), (out_len))
 #define c34_list_sum(curve, curve_len, list, list_len, out, out_len) \
     (c34_list_sum)(c34_read(curve), (curve_len), c34_read(list), (list_len), c34_written(out), (out_len))
+#define c34_common_part(curve, curve_len, a, a_len, b, b_len, out, out_len) \
+    (c34_common_part)(c34_read(curve), (curve_len), c34_read(a), (a_len), c34_read(b), (b_len), c34_written(out), \
+                      (out_len))
+#define c34_common_multiple(curve, curve_len, a, a_len, b, b_len, out, out_len) \
+    (c34_common_multiple)(c34_read(curve), (curve_len), c34_read(a), (a_len), c34_read(b), (b_len), c34_written(out), \
+                          (out_len))
+#define c34_sum_by_parts(curve, curve_len, a, a_len, b, b_len, out, out_len) \
+    (c34_sum_by_parts)(c34_read(curve), (curve_len), c34_read(a), (a_len), c34_read(b), (b_len), c34_written(out), \
+                       (out_len))
 #define c34_compare(curve, curve_len, a, a_len, b, b_len) \
     (c34_compare)(c34_read(curve), (curve_len), c34_read(a), (a_len), c34_read(b), (b_len))
 #define c34_compare_words(curve, curve_len, a, a_len, b, b_len) \

@@ -25,7 +25,13 @@ int32_t by_library(const struct call *c)
         return c34_count(k.at, k.len, a.at, a.len, c->kind);
     case REDUCE_CURVE:
         return c34_reduce_curve(k.at, k.len, c->p, c->out, c->out_len);
-    default:
+    case COMPARE_WORDS:
         return c34_compare_words(k.at, k.len, a.at, a.len, b.at, b.len);
+    case COMMON_PART:
+        return c34_common_part(k.at, k.len, a.at, a.len, b.at, b.len, c->out, c->out_len);
+    case COMMON_MULTIPLE:
+        return c34_common_multiple(k.at, k.len, a.at, a.len, b.at, b.len, c->out, c->out_len);
+    default:
+        return c34_sum_by_parts(k.at, k.len, a.at, a.len, b.at, b.len, c->out, c->out_len);
     }
 }

@@ -23,6 +23,9 @@ enum verb {
     COUNT,
     REDUCE_CURVE,
     COMPARE_WORDS,
+    COMMON_PART,
+    COMMON_MULTIPLE,
+    SUM_BY_PARTS,
     VERBS, /* those before are calls of libc34.a, those after of the archive of bench_points */
     POINTS_SUM,
     POINTS_OF,
@@ -38,7 +41,7 @@ struct call {
     enum verb verb;
     struct slice curve; /* for REDUCE_CURVE the fractions */
     struct slice a;     /* the divisor, the first divisor or the list; for POINTS_SUM the numbers */
-    struct slice b;     /* the second divisor, for SUM, COMPARE and COMPARE_WORDS */
+    struct slice b;     /* the second divisor, for the verbs that take two */
     int64_t n;          /* for MULTIPLE */
     uint32_t kind;      /* for COUNT */
     uint32_t p;         /* for REDUCE_CURVE */

@@ -3,8 +3,8 @@
 #include <stdio.h>
 #include <stdlib.h>
 
-const char *const verb_name[ALL_VERBS] = {"curve", "divisor", "sum",  "double", "neg", "mul",  "lsum",
-                                          "cmp",   "count",   "frac", "words",  "",    "psum", "points"};
+const char *const verb_name[ALL_VERBS] = {"curve", "divisor", "sum", "double", "neg",  "mul", "lsum", "cmp",   "count",
+                                          "frac",  "words",   "gcd", "lcm",    "road", "",    "psum", "points"};
 
 int writes(enum verb verb)
 {
@@ -23,7 +23,7 @@ int compares(enum verb verb)
 
 int takes_two(enum verb verb)
 {
-    return verb == SUM || compares(verb);
+    return verb == SUM || verb == COMMON_PART || verb == COMMON_MULTIPLE || verb == SUM_BY_PARTS || compares(verb);
 }
 
 int slices_read(enum verb verb)
@@ -39,6 +39,9 @@ size_t least_buffer(enum verb verb)
     case NEGATIVE:
     case MULTIPLE:
     case LIST_SUM:
+    case COMMON_PART:
+    case COMMON_MULTIPLE:
+    case SUM_BY_PARTS:
     case POINTS_SUM:
         return 40;
     case REDUCE_CURVE:

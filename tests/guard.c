@@ -6,7 +6,7 @@
    records over F_2. */
 #include "pages.h"
 #include "pairs.h"
-#include "sample.h"
+#include "records.h"
 #include <stdio.h>
 #include <string.h>
 
@@ -180,7 +180,7 @@ static void run_sample(const struct sample *s)
     static uint8_t list[6 * C34_BUFFER], fractions[C34_FRACTIONS_LENGTH];
     struct slice all = {list, make_list(s, list)};
     for (enum verb v = 0; v < VERBS; v++)
-        for (int i = 0; i < (v == CHECK_CURVE || takes_list(v) ? 1 : compares(v) ? 10 : 5); i++) {
+        for (int i = 0; i < (v == CHECK_CURVE || takes_list(v) ? 1 : takes_two(v) ? 10 : 5); i++) {
             struct call c = {.verb = v, .curve = slice_of_curve(s), .n = -3, .kind = kinds[4], .p = s->k.p};
             if (c.verb == REDUCE_CURVE)
                 c.curve = (struct slice){fractions, put_fractions(s, fractions)};
@@ -276,28 +276,6 @@ static void run_bytes(void)
         }
 }
 
-enum { CLASSES = 198 }; /* no curve of genus 3 over F_2 has more: the sixth power of 1 + sqrt(2) is below 198 */
-
-/* The accepted records on a curve over F_2; their number is returned. */
-static unsigned all_records(const struct curve *k, struct record *r)
-{
-    static const uint32_t kinds[5] = {0, 11, 21, 22, 31};
-    unsigned count = 0;
-    for (int i = 0; i < 5; i++)
-        for (uint32_t bits = 0; bits >> numbers_of(kinds[i]) == 0; bits++) {
-            struct record one;
-            uint32_t numbers[9];
-            for (int j = 0; j < 9; j++)
-                numbers[j] = bits >> j & 1;
-            one.len = put_record(one.b, kinds[i], numbers);
-            if (is_basis(k, one.b)) {
-                require(count < CLASSES, "more records are accepted than there can be classes", NULL);
-                r[count++] = one;
-            }
-        }
-    return count;
-}
-
 /* Both comparisons of two accepted records; the number of pairs of words is returned. */
 static int32_t compare(struct slice curve, struct slice a, struct slice b)
 {
@@ -321,9 +299,7 @@ static void run_pairs(void)
     uint8_t curve[C34_CURVE_LENGTH];
     long differ[11] = {0};
     for (uint32_t bits = 0; bits < 512; bits++) {
-        struct curve k = {2, {0}};
-        for (int i = 0; i < 9; i++)
-            k.c[i] = bits >> i & 1;
+        struct curve k = over_two(bits);
         put_curve(curve, k.p, k.c);
         unsigned count = nonsingular(&k) ? all_records(&k, r) : 0;
         for (unsigned i = 0; i < count * count; i++) {
@@ -352,6 +328,16 @@ static void run_null(const struct sample *s)
     require(c34_sum(k, kl, NULL, 0, a, al, out, 40) == -6, "null first divisor", NULL);
     require(c34_sum(k, kl, a, al, NULL, 0, out, 40) == -6, "null second divisor", NULL);
     require(c34_sum(k, kl, a, al, a, al, NULL, 0) == -10, "null result of a sum", NULL);
+    require(c34_common_part(k, kl, NULL, 0, a, al, out, 40) == -6, "null first divisor of a common part", NULL);
+    require(c34_common_part(k, kl, a, al, NULL, 0, out, 40) == -6, "null second divisor of a common part", NULL);
+    require(c34_common_part(k, kl, a, al, a, al, NULL, 0) == -10, "null result of a common part", NULL);
+    require(c34_common_multiple(k, kl, NULL, 0, a, al, out, 40) == -6, "null first divisor of a multiple", NULL);
+    require(c34_common_multiple(k, kl, a, al, NULL, 0, out, 40) == -6, "null second divisor of a multiple", NULL);
+    require(c34_common_multiple(k, kl, a, al, a, al, NULL, 0) == -10, "null result of a common multiple", NULL);
+    require(c34_sum_by_parts(k, kl, NULL, 0, a, al, out, 40) == -6, "null first divisor of a sum by parts", NULL);
+    require(c34_sum_by_parts(k, kl, a, al, NULL, 0, out, 40) == -6, "null second divisor of a sum by parts", NULL);
+    require(c34_sum_by_parts(k, kl, a, al, a, al, NULL, 0) == -10, "null result of a sum by parts", NULL);
+    require((c34_sum_by_parts)(k, kl, a, al, a + al, 0, out, 40) == -6, "empty divisor behind the last byte", NULL);
     require(c34_double(k, kl, a, al, NULL, 0) == -10, "null result of a double", NULL);
     require(c34_negative(k, kl, a, al, NULL, 0) == -10, "null result of a negative", NULL);
     require(c34_multiple(k, kl, a, al, 2, NULL, 0) == -10, "null result of a multiple", NULL);

@@ -12,6 +12,12 @@ int main()
         return 1;
     if (c34_compare_words(nullptr, 0, nullptr, 0, nullptr, 0) != -C34_REFUSED_CURVE_LENGTH)
         return 1;
+    if (c34_common_part(nullptr, 0, nullptr, 0, nullptr, 0, nullptr, 0) != -C34_REFUSED_CURVE_LENGTH)
+        return 1;
+    if (c34_common_multiple(nullptr, 0, nullptr, 0, nullptr, 0, nullptr, 0) != -C34_REFUSED_CURVE_LENGTH)
+        return 1;
+    if (c34_sum_by_parts(nullptr, 0, nullptr, 0, nullptr, 0, nullptr, 0) != -C34_REFUSED_CURVE_LENGTH)
+        return 1;
     std::puts("header: usable from C++");
     return 0;
 }

@@ -130,6 +130,13 @@ static void window(const struct curve *k, uint32_t (*v)[WIDTH], unsigned count, 
     close(k, s);
 }
 
+static void ideal_window(const struct curve *k, const struct ideal *a, unsigned top, struct space *s)
+{
+    uint32_t v[3][WIDTH];
+    memcpy(v, a->g, sizeof v);
+    window(k, v, 3, top, s);
+}
+
 /* ---- records and ideals ---- */
 
 enum { RECORD_TOP = 12 }; /* a record's ideal has elements of pole numbers 6 or 3 or 0, 7 or 4, and 8 */
@@ -195,9 +202,8 @@ static void tail(const struct space *s, unsigned top, uint32_t *v)
 size_t record_of(const struct curve *k, const struct ideal *a, uint8_t *record)
 {
     struct space s;
-    uint32_t u[WIDTH], v[WIDTH], w[WIDTH], gen[3][WIDTH];
-    memcpy(gen, a->g, sizeof gen);
-    window(k, gen, 3, RECORD_TOP, &s);
+    uint32_t u[WIDTH], v[WIDTH], w[WIDTH];
+    ideal_window(k, a, RECORD_TOP, &s);
     if (s.has[0])
         return put_record(record, 0, NULL);
     if (s.has[3] && s.has[4]) {
@@ -250,6 +256,18 @@ static void multiples(const struct curve *k, const uint32_t *f, unsigned top, st
         }
 }
 
+/* Puts the solutions of a kernel into the space: from place `from` on a row holds coefficients, of these monomials. */
+static void insert_solutions(struct space *s, uint32_t **row, unsigned solutions, unsigned from,
+                             const unsigned *monomial, unsigned count)
+{
+    for (unsigned i = 0; i < solutions; i++) {
+        uint32_t v[WIDTH] = {0};
+        for (unsigned m = 0; m < count; m++)
+            v[monomial[m]] = row[i][from + m];
+        insert(s, v);
+    }
+}
+
 /* J* holds f, so it is enough to look for the g made of monomials that lead no multiple of f. For such a g the products
    with the three generators of J must be zero modulo f: linear equations, solved by elimination. */
 struct ideal star(const struct curve *k, const struct ideal *a)
@@ -280,12 +298,7 @@ struct ideal star(const struct curve *k, const struct ideal *a)
     require(3 * width + count <= 4 * WIDTH, "an equation is too long", NULL);
     unsigned solutions = kernel(k->p, row, count, 3 * width);
     multiples(k, a->g[least], narrow, &s);
-    for (unsigned i = 0; i < solutions; i++) {
-        memset(v, 0, sizeof v);
-        for (unsigned m = 0; m < count; m++)
-            v[monomial[m]] = row[i][3 * width + m];
-        insert(&s, v);
-    }
+    insert_solutions(&s, row, solutions, 3 * width, monomial, count);
     return generators(&s);
 }
 
@@ -295,7 +308,7 @@ struct ideal reduced(const struct curve *k, const struct ideal *a)
     return star(k, &b);
 }
 
-/* ---- powers ---- */
+/* ---- two ideals ---- */
 
 static unsigned highest(const struct ideal *a)
 {
@@ -303,14 +316,56 @@ static unsigned highest(const struct ideal *a)
     return a->pole[2] > n ? a->pole[2] : n;
 }
 
+static unsigned higher(const struct ideal *a, const struct ideal *b)
+{
+    return highest(a) > highest(b) ? highest(a) : highest(b);
+}
+
+struct ideal together(const struct curve *k, const struct ideal *a, const struct ideal *b)
+{
+    uint32_t v[6][WIDTH];
+    struct space s;
+    memcpy(v, a->g, sizeof a->g);
+    memcpy(v + 3, b->g, sizeof b->g);
+    window(k, v, 6, higher(a, b) + 4, &s);
+    return generators(&s);
+}
+
+/* The combinations of monomials that leave nothing modulo a and nothing modulo b: linear equations, solved by
+   elimination. The generator of a with residue 0 times each one of b is in both, so the window is wide enough. */
+struct ideal intersection(const struct curve *k, const struct ideal *a, const struct ideal *b)
+{
+    static struct space s[2];
+    static uint32_t rows[WIDTH][3 * WIDTH];
+    uint32_t *row[WIDTH];
+    unsigned top = highest(a) + highest(b) + 4, width = top + 1, count = 0, monomial[WIDTH];
+    require(width <= WIDTH, "an equation is too long", NULL);
+    ideal_window(k, a, top, &s[0]);
+    ideal_window(k, b, top, &s[1]);
+    memset(rows, 0, sizeof rows);
+    for (unsigned n = 0; n <= top; n++)
+        if (is_pole(n)) {
+            row[count] = rows[count];
+            for (unsigned side = 0; side < 2; side++) {
+                row[count][side * width + n] = 1;
+                reduce(&s[side], row[count] + side * width);
+            }
+            row[count][2 * width + count] = 1;
+            monomial[count++] = n;
+        }
+    unsigned solutions = kernel(k->p, row, count, 2 * width);
+    make_empty(&s[0], k->p, width);
+    insert_solutions(&s[0], row, solutions, 2 * width, monomial, count);
+    return generators(&s[0]);
+}
+
+/* ---- powers ---- */
+
 /* 1 if a lies inside b: the generators of a are in b's window. */
 static int lies_inside(const struct curve *k, const struct ideal *a, const struct ideal *b)
 {
-    unsigned top = highest(a) > highest(b) ? highest(a) : highest(b);
-    uint32_t gen[3][WIDTH];
     struct space s;
-    memcpy(gen, b->g, sizeof gen);
-    window(k, gen, 3, top + 4, &s);
+    ideal_window(k, b, higher(a, b) + 4, &s);
     for (unsigned j = 0; j < 3; j++)
         if (insert(&s, a->g[j]))
             return 0;

@@ -9,6 +9,8 @@
    is_basis        1 if a record is one
    ideal_of        the ideal that a record's polynomials generate
    product, star   J K and J*
+   together        J + K, the ideal that both generate
+   intersection    the elements that are in both J and K
    reduced         (J*)*
    record_of       the record of a reduced ideal
    polynomials     those of a record; their number is returned
@@ -43,6 +45,8 @@ int is_basis(const struct curve *k, const uint8_t *record);
 struct ideal ideal_of(const struct curve *k, const uint8_t *record);
 struct ideal product(const struct curve *k, const struct ideal *a, const struct ideal *b);
 struct ideal star(const struct curve *k, const struct ideal *a);
+struct ideal together(const struct curve *k, const struct ideal *a, const struct ideal *b);
+struct ideal intersection(const struct curve *k, const struct ideal *a, const struct ideal *b);
 struct ideal reduced(const struct curve *k, const struct ideal *a);
 size_t record_of(const struct curve *k, const struct ideal *a, uint8_t *record);
 

@@ -1,6 +1,7 @@
 /* Two records that agree before a number, and a curve for them: see pairs.h. The numbers come first. F is then a
    polynomial that lies in the ideals of both records, found by linear algebra. */
 #include "pairs.h"
+#include "records.h"
 #include <string.h>
 
 enum { P = 2147483647 };
@@ -16,18 +17,6 @@ static uint32_t less(uint32_t a, uint32_t b)
 }
 
 /* ---- numbers ---- */
-
-enum { F0, F1, F2, G0, G1, G2, H0, H1, H2, MOST }; /* the numbers of kind 31 */
-
-/* Kind 31: with these constants, and no others, f, g and h are a basis of their ideal in k[x, y]. They follow from
-   (x^2) y = x (xy) and (xy) y = x (y^2), where f, g and h give x^2, xy and y^2. */
-static void set_constants(uint32_t *n)
-{
-    uint32_t u = less(n[H2], n[G1]), v = less(n[F1], n[G2]);
-    n[F0] = plus(times(P, n[F2], u), times(P, n[G2], v));
-    n[G0] = less(times(P, n[G1], n[G2]), times(P, n[F2], n[H1]));
-    n[H0] = plus(times(P, n[H1], v), times(P, n[G1], u));
-}
 
 /* Kind 31: some numbers of a are set such that b, where one or two that are no constants are moved by the step, differs
    from a by the step at `number` and not before. If both have two points over the same x, they share one of them, for F
@@ -74,12 +63,12 @@ static void relate_31(unsigned number, uint32_t step, uint32_t *a, uint32_t *b)
     default:
         a[F2] = a[G1] = a[H1] = 0;
     }
-    memcpy(b, a, MOST * sizeof *b);
+    memcpy(b, a, NUMBERS_31 * sizeof *b);
     b[moved] = plus(b[moved], step);
     if (number == H1)
         b[H2] = plus(b[H2], step);
-    set_constants(a);
-    set_constants(b);
+    set_constants(P, a);
+    set_constants(P, b);
 }
 
 /* Kind 22: y^2 + g1 y + g0 has the root -1 in both where g0 differs, and 0 where g1 does. */
@@ -89,7 +78,7 @@ static void relate_22(unsigned number, uint32_t step, uint32_t *a, uint32_t *b)
         a[2] = plus(a[1], 1);
     if (number == 2)
         a[1] = 0;
-    memcpy(b, a, MOST * sizeof *b);
+    memcpy(b, a, NUMBERS_31 * sizeof *b);
     b[number] = plus(b[number], step);
     if (number == 1)
         b[2] = plus(b[2], step);
@@ -97,14 +86,14 @@ static void relate_22(unsigned number, uint32_t step, uint32_t *a, uint32_t *b)
 
 static void random_numbers(uint32_t kind, unsigned number, uint32_t step, uint32_t *a, uint32_t *b)
 {
-    for (unsigned i = 0; i < MOST; i++)
+    for (unsigned i = 0; i < NUMBERS_31; i++)
         a[i] = random_below(P);
     if (kind == C34_KIND_31)
         relate_31(number, step, a, b);
     else if (kind == C34_KIND_22)
         relate_22(number, step, a, b);
     else {
-        memcpy(b, a, MOST * sizeof *b);
+        memcpy(b, a, NUMBERS_31 * sizeof *b);
         b[number] = plus(b[number], step);
     }
 }
@@ -177,7 +166,7 @@ static int through_records(struct curve *k, const struct record *a, const struct
 
 void make_pair(struct pair *q, uint32_t kind, unsigned number, unsigned byte)
 {
-    uint32_t a[MOST], b[MOST], step = 1u << (8 * byte);
+    uint32_t a[NUMBERS_31], b[NUMBERS_31], step = 1u << (8 * byte);
     struct curve k = {P, {0}};
     do {
         do

@@ -7,15 +7,18 @@
 #include <string.h>
 
 enum { SAMPLES = 40, LIST_ROOM = 4096, OUT_ROOM = 128, FILL = 0x5A, REFUSALS = 13, WORDS = 10, ALIKE = 18 };
+enum { OVERLAPS = 64 };
 
 static const uint32_t primes[] = {2,  2,  2,   3,   3,    3,     5,         5,          7,
                                   11, 13, 101, 251, 1009, 65521, 268435399, 2147483629, 2147483647};
 
 static struct sample sample[SAMPLES];
 static struct pair alike[ALIKE]; /* one for each number of each kind */
+static struct record overlap[SAMPLES][OVERLAPS][2]; /* where a sample has points, sums of the same few of them */
 static uint8_t given[3][LIST_ROOM + 64]; /* the bytes of curve, or fractions, of a and of b */
 static struct call c;
 static long refused[REFUSALS + 1], accepted[VERBS], compared[WORDS + 1], made;
+static long common[C34_KIND_31 + 1]; /* by kind, how many common parts have it */
 
 /* ---- an accepted call ---- */
 
@@ -46,6 +49,14 @@ static void lend_alike(void)
     lend(2, slice_of_record(&q->b), &c.b);
 }
 
+/* Two random records mostly have nothing in common; these mostly have. */
+static void pick_overlap(const struct sample *s, struct record *a, struct record *b)
+{
+    unsigned i = random_below(OVERLAPS);
+    *a = overlap[s - sample][i][0];
+    *b = overlap[s - sample][i][1];
+}
+
 static int64_t random_multiplier(void)
 {
     static const int64_t border[] = {0, 1, -1, 2, -2, INT64_MAX, INT64_MIN, INT64_MIN + 1};
@@ -65,6 +76,8 @@ static void make_call(const struct sample *s)
     static uint8_t out[OUT_ROOM];
     struct record a, b;
     pick_pair(s, &a, &b);
+    if (s->points > 0 && random_below(3) == 0)
+        pick_overlap(s, &a, &b);
     c.verb = random_below(3) == 0 ? SUM : (enum verb)random_below(VERBS);
     lend(0, slice_of_curve(s), &c.curve);
     lend(1, slice_of_record(&a), &c.a);
@@ -102,6 +115,8 @@ static void compare(int32_t e)
         accepted[c.verb]++;
     if (want > 0 && c.verb == COMPARE_WORDS)
         compared[want]++;
+    if (want > 0 && c.verb == COMMON_PART)
+        common[get16(c.out + 2)]++;
 }
 
 /* ---- mutations ---- */
@@ -238,13 +253,37 @@ static void make_alike(void)
             make_pair(q++, kinds[i], (unsigned)n, random_below(4));
 }
 
+/* The sum of one to three of three points. */
+static struct record sum_of_some(const struct sample *s, const struct record *const three[3])
+{
+    struct record r = *three[random_below(3)];
+    for (unsigned more = random_below(3); more > 0; more--)
+        r = sum_of(s, &r, three[random_below(3)]);
+    return r;
+}
+
+/* Pairs of sums of the same points, one time in three multiples of one point. */
+static void make_overlaps(const struct sample *s)
+{
+    for (unsigned i = 0; s->points > 0 && i < OVERLAPS; i++) {
+        const struct record *three[3];
+        for (unsigned j = 0; j < 3; j++)
+            three[j] = j > 0 && i % 3 == 0 ? three[0] : &s->point[random_below(s->points)];
+        overlap[s - sample][i][0] = sum_of_some(s, three);
+        overlap[s - sample][i][1] = sum_of_some(s, three);
+    }
+}
+
 int main(int argc, char **argv)
 {
+    static const uint32_t kinds[5] = {0, 11, 21, 22, 31};
     long full = argc > 1 ? atol(argv[1]) : 20000, mutated = argc > 2 ? atol(argv[2]) : 2000000, sums = 0;
     seed(20261115);
     for (unsigned i = 0; i < SAMPLES; i++)
         make_sample(&sample[i], primes[i % (sizeof primes / sizeof *primes)], RECORDS);
     make_alike();
+    for (unsigned i = 0; i < SAMPLES; i++)
+        make_overlaps(&sample[i]);
     for (long i = 0; i < full; i++) {
         make_call(random_sample());
         if (compares(c.verb) && random_below(3) == 0)
@@ -256,6 +295,9 @@ int main(int argc, char **argv)
     printf("random: %ld accepted calls agree, %ld of them give a record; pairs of words, 1 to %d:", full, sums, WORDS);
     for (int n = 1; n <= WORDS; n++)
         printf(" %ld", compared[n]);
+    printf("; common parts of kind 0, 11, 21, 22, 31:");
+    for (int i = 0; i < 5; i++)
+        printf(" %ld", common[kinds[i]]);
     printf("\n");
     made = 0;
     while (made < mutated)
@@ -268,5 +310,7 @@ int main(int argc, char **argv)
         require(refused[e] > 0 || e == C34_REFUSED_LIST_LIMIT, "a refusal was never met", NULL);
     for (int n = 1; n <= WORDS; n++)
         require(compared[n] > 0, "a number of words was never met", NULL);
+    for (int i = 0; i < 5; i++)
+        require(common[kinds[i]] > 0, "a kind of common parts was never met", NULL);
     return 0;
 }

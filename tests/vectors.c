@@ -1,11 +1,9 @@
 /* Makes the calls of a file of test vectors and compares: vectors FILE [PROGRAM]. The head of vectors.txt says how a
    line reads. Every call is made between guard pages: each slice, the result buffer included, ends at a page that
-   cannot be touched. PROGRAM is the counting program; without it the lines of verb prog are left out. Two verbs are no
-   calls, but made of some, for the papers' examples:
+   cannot be touched. PROGRAM is the counting program; without it the lines of verb prog are left out. One verb is no
+   call, but made of two, for the papers' examples:
 
-     negsum C LIST L   the negative of the list sum
-     lcm C A B G L     A + B - G, the class of the least common multiple of A and B if G is their greatest common
-                       divisor */
+     negsum C LIST L   the negative of the list sum */
 #include "pages.h"
 #include <stdio.h>
 #include <stdlib.h>
@@ -90,19 +88,6 @@ static struct slice written(const struct call *c, int32_t n)
     return (struct slice){c->out, n < 0 ? 0 : (size_t)n};
 }
 
-static int32_t lcm(struct call *c)
-{
-    static uint8_t minus_g[C34_BUFFER];
-    struct call g = *c;
-    g.a = slice_of(3);
-    struct slice r = written(&g, made(&g, NEGATIVE));
-    memcpy(minus_g, r.at, r.len);
-    int32_t n = made(c, SUM);
-    c->a = written(c, n);
-    c->b = (struct slice){minus_g, r.len};
-    return n < 0 ? n : made(c, SUM);
-}
-
 static int32_t negsum(struct call *c)
 {
     int32_t n = made(c, LIST_SUM);
@@ -122,7 +107,7 @@ static enum verb verb_of(const char *name)
 static int slices_of(const char *name)
 {
     enum verb verb = verb_of(name);
-    return verb < VERBS ? slices_read(verb) : strcmp(name, "prog") == 0 ? 1 : strcmp(name, "lcm") == 0 ? 4 : 2;
+    return verb < VERBS ? slices_read(verb) : strcmp(name, "prog") == 0 ? 1 : 2;
 }
 
 /* The call of a line with `count` arguments: slices, then a number if there is one, then the length of the buffer. */
@@ -147,8 +132,8 @@ static int32_t make(const char *name, int count, struct call *c)
         c->out_len = strtoul(argument[count - 1], NULL, 10);
     if (verb < VERBS)
         return made(c, verb);
-    require(strcmp(name, "lcm") == 0 || strcmp(name, "negsum") == 0, "a line has an unknown verb", NULL);
-    return strcmp(name, "lcm") == 0 ? lcm(c) : negsum(c);
+    require(strcmp(name, "negsum") == 0, "a line has an unknown verb", NULL);
+    return negsum(c);
 }
 
 /* The buffer holds the n wanted bytes and is as it was after them. */

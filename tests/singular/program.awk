@@ -54,10 +54,11 @@ $1 == "curve" {
     printf "curve_text(bigint(%s), intvec(%s));\n", n[2], c
 }
 $1 == "divisor" { printf "divisor_text(%s);\n", record(a) }
-$1 == "sum" { printf "record_text(reduced(product(%s)));\n", records(a "+" b) }
+$1 == "sum" || $1 == "road" { printf "record_text(reduced(product(%s)));\n", records(a "+" b) }
 $1 == "double" { printf "record_text(reduced(product(%s)));\n", records(a "+" a) }
 $1 == "neg" { printf "record_text(star(ideal_of(%s)));\n", record(a) }
 $1 == "mul" { printf "record_text(multiple(%s, bigint(%s)));\n", record(a), b }
 $1 == "lsum" { printf "record_text(reduced(product(%s)));\n", records(a) }
 $1 == "negsum" { printf "record_text(star(product(%s)));\n", records(a) }
-$1 == "lcm" { printf "lcm_text(%s, %s, %s);\n", record(a), record(b), record(argument[5]) }
+$1 == "gcd" { printf "record_text(ideal_of(%s) + ideal_of(%s));\n", record(a), record(b) }
+$1 == "lcm" { printf "record_text(reduced(intersect(ideal_of(%s), ideal_of(%s))));\n", record(a), record(b) }

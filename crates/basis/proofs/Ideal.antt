@@ -1,4 +1,5 @@
 -- The span of a record's triple.
+--   triple-member, triple-degree   its rows stand for the members of the record, and have their degrees
 --   triple-least           its least degree is at most 6
 --   triple-closed          a triple that is closed under y is that of a basis
 --   triple-open            a triple that is not is that of no basis
@@ -28,7 +29,7 @@ use Rattle.basis.specs.Divisor.{residues}
 use Rattle.basis.specs.Contract.{three-degrees, Tripled}
 
 module _ {p : ℕ} {κ : Kind} {r : Divisor} {t : List (List ℕ)} {d : List ℕ} (h : Tripled p κ r t d) where
-  triple-member : (C : Curve (Z p)) (j : ℕ) → j ≤ 2 → element p C (row t j) ≡ member C κ (residues p r) j
+  pub triple-member : (C : Curve (Z p)) (j : ℕ) → j ≤ 2 → element p C (row t j) ≡ member C κ (residues p r) j
   triple-member C j l =
       sym (List·getD-map (element p C) t j [])
       ∙ ap (λ gs. getD gs j (element p C [])) (h .members-are C)
@@ -40,7 +41,7 @@ module _ {p : ℕ} {κ : Kind} {r : Divisor} {t : List (List ℕ)} {d : List ℕ
       listed (suc (suc zero)) l = refl
       listed (suc (suc (suc j))) l = absurd (omega arith)
 
-  triple-degree : (j : ℕ) → j ≤ 2 → at d j ≡ degree κ j
+  pub triple-degree : (j : ℕ) → j ≤ 2 → at d j ≡ degree κ j
   triple-degree j l = ap (λ e. at e j) (h .degrees-are) ∙ listed j l
     where
       listed : (j : ℕ) → j ≤ 2 → at (three-degrees κ) j ≡ degree κ j

@@ -1,6 +1,6 @@
 // The calls of the host. Each takes slices and numbers, checks them in the documents' order and returns a signed number:
 // minus the number of the refusal, or what the call is for.
-ghost use Rattle.calls.specs.Call.{CheckCurve, CheckDivisor, Sum, Double, Negative, Multiple, ListSum, Compare, Count, ReduceCurve, CompareWords};
+ghost use Rattle.calls.specs.Call.{CheckCurve, CheckDivisor, Sum, Double, Negative, Multiple, ListSum, Compare, Count, ReduceCurve, CompareWords, CommonPart, CommonMultiple};
 
 // 1 for an accepted curve.
 #[no_mangle]
@@ -88,4 +88,28 @@ pub extern "C" fn c34_compare_words(curve: &[u8], a: &[u8], b: &[u8]) -> i32
     ensures { λ r. ⌜ CompareWords (now (curve .entry)) (now (a .entry)) (now (b .entry)) r ⌝ }
 {
     comparison::compare_words(curve, a, b)
+}
+
+// The common part of two divisors.
+#[no_mangle]
+pub extern "C" fn c34_common_part(curve: &[u8], a: &[u8], b: &[u8], out: &mut [u8]) -> i32
+    ensures { λ r. ⌜ CommonPart (now (curve .entry)) (now (a .entry)) (now (b .entry)) (now (out .entry)) r (now (out .exit)) ⌝ }
+{
+    overlap::common_part(curve, a, b, out)
+}
+
+// The reduced form of the common multiple of two divisors.
+#[no_mangle]
+pub extern "C" fn c34_common_multiple(curve: &[u8], a: &[u8], b: &[u8], out: &mut [u8]) -> i32
+    ensures { λ r. ⌜ CommonMultiple (now (curve .entry)) (now (a .entry)) (now (b .entry)) (now (out .entry)) r (now (out .exit)) ⌝ }
+{
+    overlap::common_multiple(curve, a, b, out)
+}
+
+// The sum of two divisors, by the second road.
+#[no_mangle]
+pub extern "C" fn c34_sum_by_parts(curve: &[u8], a: &[u8], b: &[u8], out: &mut [u8]) -> i32
+    ensures { λ r. ⌜ Sum (now (curve .entry)) (now (a .entry)) (now (b .entry)) (now (out .entry)) r (now (out .exit)) ⌝ }
+{
+    overlap::sum_by_parts(curve, a, b, out)
 }

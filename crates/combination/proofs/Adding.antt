@@ -10,6 +10,7 @@ use Rattle.ideal.specs.Parts.{IdealSum}
 use Rattle.ideal.proofs.Invertible.{Scaled}
 use Rattle.ideal.proofs.Parts.{sum-same}
 use Rattle.ideal.proofs.Same.{same-refl, same-trans}
+use Rattle.ideal.proofs.Swap.{scaled-same}
 use Rattle.multiplication.specs.Contract.{YMultiplesAsked, YMultiples}
 use Rattle.triple.specs.Setting.{Setting, ring}
 use Rattle.triple.specs.Triple.{Spanned}
@@ -21,7 +22,7 @@ use Rattle.group.specs.Contract.{ideal, NegativeAsked}
 use Rattle.group.proofs.Divisor.{divisor-tripled, divisor-same}
 use Rattle.combination.specs.declared.Polynomial.{Polynomial}
 use Rattle.combination.specs.Contract.{value, AddAsked, Added}
-use Rattle.combination.proofs.Spans.{scaled-same, put-same}
+use Rattle.combination.proofs.Spans.{put-same}
 
 module _ {g : Ground} {u : Polynomial} {x : Divisor} {t : List (List ℕ)} {d : List ℕ} (h : AddAsked g u x t d) where
   pub multiples-asked : YMultiplesAsked (g .p) (g .cube) (u .v) (u .d + 1)

@@ -1,7 +1,4 @@
--- Sums of spans over k[x], and the span of products with one element.
---   scaled-same            e·Y for sets Y with the same elements
---   sum-comm               I + J = J + I
---   sum-none               I + J = I, where zero is the only element of J
+-- The span over k[x] of products with one element, and of further elements.
 --   put-same               the span of the products of three vectors with u and of further vectors is u·(the span of the three) + (that of the others)
 use mathlib.Core.Path.{_≡_, refl, sym, _∙_, ap, subst}
 use mathlib.Core.List.{List}
@@ -24,22 +21,6 @@ use Rattle.triple.specs.Setting.{Setting, poles-of}
 use Rattle.triple.specs.Triple.{elements, Spanned, listed}
 use Rattle.triple.proofs.Listed.{listed-at, listed-rest}
 use Rattle.triple.proofs.Members.{each-row, spanned-row}
-
-module _ (R : CommRing) where
-  open CommRing R using (Car, zero, add as _⊕_)
-
-  infixl 60 _⊕_
-  pub scaled-same : (e : Car) {Y Y′ : Car → Type 0} → SameIdeal R Y Y′ → SameIdeal R (Scaled R e Y) (Scaled R e Y′)
-  scaled-same e s h = (λ (y, m, q). (y, s y .0 m, q), λ (y, m, q). (y, s y .1 m, q))
-
-  pub sum-comm : {I J : Car → Type 0} → SameIdeal R (IdealSum R I J) (IdealSum R J I)
-  sum-comm h = (λ (i, j, mi, mj, e). (j, i, mj, mi, e ∙ R .add-comm i j), λ (j, i, mj, mi, e). (i, j, mi, mj, e ∙ R .add-comm j i))
-
-  pub sum-none : {I J : Car → Type 0} → SameIdeal R J (λ h. h ≡ zero) → SameIdeal R (IdealSum R I J) I
-  sum-none {I} {J} z h = (
-    λ (i, j, mi, mj, e). subst I (sym (e ∙ ap (λ t. i ⊕ t) (z j .0 mj) ∙ R .add-zero i)) mi,
-    λ m. (h, zero, m, z zero .1 refl, sym (R .add-zero h)),
-  )
 
 module _ {R : CommRing} (P : Poles R) where
   open CommRing R using (Car, zero, add as _⊕_, mul as _⊗_)

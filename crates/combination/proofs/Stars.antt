@@ -10,9 +10,8 @@ use Rattle.ideal.specs.Ideal.{IsIdeal, SameIdeal}
 use Rattle.ideal.proofs.Degree.{monic-pole, pole-mul}
 use Rattle.ideal.proofs.Invertible.{Scaled, scaled-ideal}
 use Rattle.ideal.proofs.Leads.{Lead}
-use Rattle.ideal.proofs.Parts.{sum-right, sum-ideal, sum-same}
+use Rattle.ideal.proofs.Parts.{sum-right, sum-ideal, sum-same, sum-comm, sum-none}
 use Rattle.ideal.proofs.Same.{same-refl, same-sym, same-trans, ideal-same}
-use Rattle.ideal.proofs.Star.{star-same}
 use Rattle.vector.specs.Vector.{at, width}
 use Rattle.triple.specs.Setting.{Setting, ring, poles-of}
 use Rattle.triple.specs.Triple.{Spanned}
@@ -24,9 +23,9 @@ use Rattle.basis.specs.declared.Divisor.{Divisor}
 use Rattle.star.specs.Contract.{StarAsked, StarOf}
 use Rattle.group.specs.Contract.{ideal, NegativeAsked}
 use Rattle.group.proofs.Divisor.{divisor-footprint}
+use Rattle.group.proofs.Stars.{starred}
 use Rattle.combination.specs.declared.Polynomial.{Polynomial}
 use Rattle.combination.specs.Contract.{value, combined, CombinationAsked, CombinationOf, AddAsked, Added}
-use Rattle.combination.proofs.Spans.{sum-comm, sum-none}
 
 module _ {g : Ground} {u : Polynomial} {x : Divisor} {v : Polynomial} {y : Divisor} where
   abbrev first-divisor : CombinationAsked g u x v y → NegativeAsked g x
@@ -89,7 +88,4 @@ module _ {g : Ground} {u : Polynomial} {x : Divisor} {v : Polynomial} {y : Divis
 
     pub combination-of : {t : List (List ℕ)} {d : List ℕ} {r : Divisor} → Added g v y t₁ t d → StarOf g t d r → CombinationOf g u x v y r
     unfolding combined-asked
-    combination-of h s A =
-        let q = s (combined-asked h A) in
-        let S = A .pair .grounded .ready .setting in
-        (record { kind = q .kind; based = q .based }, star-same (poles-of S) (combined-same h A) (same-refl (ring S) _) (q .star))
+    combination-of h s A = starred (combined-same h A) (s (combined-asked h A))

@@ -8,7 +8,6 @@
 use mathlib.Core.Path.{_≡_}
 use mathlib.Core.List.{List}
 use Prim.Native.Nat.{ℕ, _%_, _≤_}
-use Rattle.algebra.specs.Ring.{CommRing}
 use Rattle.prime.specs.Prime.{Prime}
 use Rattle.field.specs.Residue.{Z}
 use Rattle.ideal.specs.Ideal.{SameIdeal}

@@ -1,4 +1,5 @@
 -- What star is asked for and what it gives, for the triple of a divisor and for the product of two.
+--   starred                the star of a triple is that of a set with the elements of the span
 --   negative-asked         the span of a divisor's triple is an ideal with a lead of at most 6
 --   negative-of            … so the star of the triple is the star of the divisor's ideal
 --   product-asked          the triples of two divisors may be multiplied
@@ -29,7 +30,7 @@ use Rattle.group.specs.Contract.{IsDivisor, ideal, NegativeAsked, Negati
 use Rattle.group.proofs.Divisor.{divisor-footprint, divisor-tripled, divisor-span, divisor-same}
 
 -- a star of a set that has the same elements as J
-starred : {p : ℕ} {S : Setting p} {t : List (List ℕ)} {r : Divisor} {J : ring S .Car → Type 0} → SameIdeal (ring S) (Spanned S t) J → Starred p S t r
+pub starred : {p : ℕ} {S : Setting p} {t : List (List ℕ)} {r : Divisor} {J : ring S .Car → Type 0} → SameIdeal (ring S) (Spanned S t) J → Starred p S t r
     → (D : IsDivisor S r) × IsStar (poles-of S) J (ideal S r D)
 starred {S = S} e q = (record { kind = q .kind; based = q .based }, star-same (poles-of S) e (same-refl (ring S) _) (q .star))
 

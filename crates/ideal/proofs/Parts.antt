@@ -2,13 +2,14 @@
 --   sum-left, sum-right        I + J holds I and J
 --   sum-ideal, intersection-ideal      both are ideals
 --   sum-same, intersection-same        sums and intersections of sets with the same elements
+--   sum-comm, sum-none         I + J = J + I, and I + J = I where zero is the only element of J
 --   sum-generated              lists one after the other generate the sum
 --   sum-based                  the sum of two based ideals is based
 --   colon-based-ideal          (f : K) is a based ideal with a nonzero element if K is, f in K
 --   colon-sum                  (f : I + J) = (f : I) ∩ (f : J)
 --   colon-intersection         (f : I) + (f : J) = (f : I ∩ J) for based ideals I and J and f in both
 --   intersection-based         … and I ∩ J is based
-use mathlib.Core.Path.{_≡_, sym, _∙_, ap, ap₂, subst}
+use mathlib.Core.Path.{_≡_, refl, sym, _∙_, ap, ap₂, subst}
 use mathlib.Core.List.{List, _++_}
 use Prim.Native.Nat.{ℕ}
 use Rattle.algebra.specs.Ring.{CommRing}
@@ -63,6 +64,15 @@ module _ (R : CommRing) where
 
   pub sum-same : {I I′ J J′ : Car → Type 0} → SameIdeal R I I′ → SameIdeal R J J′ → SameIdeal R (IdealSum R I J) (IdealSum R I′ J′)
   sum-same e e′ h = (λ (x, y, mx, my, p). (x, y, e x .0 mx, e′ y .0 my, p), λ (x, y, mx, my, p). (x, y, e x .1 mx, e′ y .1 my, p))
+
+  pub sum-comm : {I J : Car → Type 0} → SameIdeal R (IdealSum R I J) (IdealSum R J I)
+  sum-comm h = (λ (i, j, mi, mj, e). (j, i, mj, mi, e ∙ R .add-comm i j), λ (j, i, mj, mi, e). (i, j, mi, mj, e ∙ R .add-comm j i))
+
+  pub sum-none : {I J : Car → Type 0} → SameIdeal R J (λ h. h ≡ zero) → SameIdeal R (IdealSum R I J) I
+  sum-none {I} z h = (
+    λ (i, j, mi, mj, e). subst I (sym (e ∙ ap (λ t. i ⊕ t) (z j .0 mj) ∙ R .add-zero i)) mi,
+    λ m. (h, zero, m, z zero .1 refl, sym (R .add-zero h)),
+  )
 
   pub sum-generated : (gs hs : List Car) → SameIdeal R (IdealSum R (Generated R gs) (Generated R hs)) (Generated R (gs ++ hs))
   sum-generated gs hs h = (

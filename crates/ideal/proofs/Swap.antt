@@ -13,8 +13,7 @@
 --   colon-inside           if (u : N) lies in J, then u is in N·J
 --   parts-equivalent       L·G is equivalent to I·J, if A is equivalent to I, L to A ∩ J, and G is A + J
 use mathlib.Core.Path.{_≡_, refl, sym, _∙_, ap, subst}
-use Prim.Native.Nat.{ℕ, _+_, _≤_}
-use native.Mathlib.Omega.{arith}
+use Prim.Native.Nat.{ℕ, _+_}
 use Rattle.algebra.specs.Ring.{CommRing}
 use Rattle.algebra.proofs.Laws as laws
 use Rattle.ideal.specs.Ideal.{IsIdeal, Product, Multiple, Colon, SameIdeal, Equivalent}
@@ -23,15 +22,15 @@ use Rattle.ideal.specs.Reduced.{Least, IsStar, IsReduced}
 use Rattle.ideal.specs.Parts.{IdealSum, Intersection}
 use Rattle.ideal.specs.Invertible.{InvertibleIdeal}
 use Rattle.ideal.proofs.Same.{same-refl, same-sym, same-trans}
-use Rattle.ideal.proofs.Degree.{cancel, monic-pole, mul-nonzero, one-nonzero, pole-mul, pole-nonzero}
+use Rattle.ideal.proofs.Degree.{cancel, monic-pole, one-nonzero, pole-mul, pole-nonzero}
 use Rattle.ideal.proofs.Leads.{ideal-space, Lead, least}
-use Rattle.ideal.proofs.Colon.{colon-ideal, colon-self, colon-same, colon-colon}
+use Rattle.ideal.proofs.Colon.{colon-ideal, colon-self, colon-colon}
 use Rattle.ideal.proofs.Class.{equivalent-same, equivalent-sym, equivalent-trans, star-class}
-use Rattle.ideal.proofs.Product.{product-map, product-comm, product-same, product-equivalent}
+use Rattle.ideal.proofs.Product.{product-map, product-equivalent}
 use Rattle.ideal.proofs.Reduced.{SmallFootprint, footprint-exists, star-footprint, star-star}
 use Rattle.ideal.proofs.Star.{star-same, reduced-same}
 use Rattle.ideal.proofs.Finite.{BasedIdeal, footprint-based}
-use Rattle.ideal.proofs.Parts.{sum-left, sum-right, sum-ideal, sum-same, sum-based, colon-based-ideal, colon-intersection, intersection-based}
+use Rattle.ideal.proofs.Parts.{sum-right, sum-ideal, sum-same, sum-based, colon-based-ideal, colon-intersection, intersection-based}
 use Rattle.ideal.proofs.Invertible.{Scaled, invertible-colon, invertible-parts, invertible-same}
 use Rattle.ideal.proofs.Rules.{ring}
 

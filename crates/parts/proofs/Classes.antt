@@ -8,7 +8,6 @@ use mathlib.Core.Path.{_≡_, refl, sym, subst}
 use mathlib.Core.Logic.{_⊎_, inl, inr}
 use Prim.Native.Nat.{ℕ, _%_, _<_, _≤_}
 use native.Mathlib.Omega.{arith}
-use Rattle.algebra.specs.Ring.{CommRing}
 use Rattle.prime_field.specs.Field.{F}
 use Rattle.ideal.specs.Poles.{HasPole}
 use Rattle.ideal.specs.Reduced.{Least}
@@ -17,7 +16,7 @@ use Rattle.divisor.specs.Kind.{Kind, code}
 use Rattle.divisor.proofs.Table.{degree, kind-by, class-by, degree-bound}
 use Rattle.divisor.proofs.Members.{member, member-monic, spanned-each, spanned-ideal-of}
 use Rattle.divisor.proofs.Basis.{lead-basis}
-use Rattle.triple.specs.Setting.{Setting, ring, poles-of}
+use Rattle.triple.specs.Setting.{Setting, poles-of}
 use Rattle.triple.proofs.Element.{present-monic}
 use Rattle.basis.specs.declared.Divisor.{Divisor}
 use Rattle.basis.specs.Divisor.{residues}

@@ -4,15 +4,12 @@
 --   star-least                     the ideal of a negative is (f : I), f the least element of I
 --   meet-asked, meet-of            the star of u·J* + v·N is the reduced ideal of (u : N) ∩ J
 --   multiple-asked, multiple-of    … that of I ∩ J, for N = I* and u the least element of I
-use mathlib.Core.Path.{_≡_, sym, subst}
-use Prim.Native.Nat.{ℕ, _≤_}
+use mathlib.Core.Path.{sym, subst}
+use Prim.Native.Nat.{ℕ}
 use native.Mathlib.Omega.{arith}
-use Rattle.algebra.specs.Ring.{CommRing}
 use Rattle.ideal.specs.Ideal.{Colon, SameIdeal}
-use Rattle.ideal.specs.Poles.{HasPole}
-use Rattle.ideal.specs.Reduced.{Least, IsStar}
-use Rattle.ideal.specs.Parts.{IdealSum}
-use Rattle.ideal.proofs.Same.{same-refl, same-sym, same-trans}
+use Rattle.ideal.specs.Reduced.{IsStar}
+use Rattle.ideal.proofs.Same.{same-refl, same-trans}
 use Rattle.ideal.proofs.Degree.{monic-pole}
 use Rattle.ideal.proofs.Leads.{ideal-space, least-unique}
 use Rattle.ideal.proofs.Colon.{colon-self, colon-same, colon-colon}
@@ -29,7 +26,7 @@ use Rattle.basis.specs.Divisor.{Shaped}
 use Rattle.basis.proofs.Choice.{only}
 use Rattle.group.specs.Contract.{IsDivisor, ideal, NegativeAsked, NegativeOf, SumAsked, ZeroClass}
 use Rattle.group.proofs.Divisor.{divisor-footprint, divisor-based, zero-divisor}
-use Rattle.combination.specs.Contract.{MonicValue, value, MemberIs, MemberOf, combined, CombinationAsked, CombinationOf}
+use Rattle.combination.specs.Contract.{value, MemberIs, MemberOf, CombinationAsked, CombinationOf}
 use Rattle.combination.specs.declared.Polynomial.{Polynomial}
 use Rattle.parts.specs.Contract.{LeastOf, OverlapOf, PartOf, MeetAsked, MeetOf, MultipleOf}
 use Rattle.parts.proofs.Classes.{value-pole}

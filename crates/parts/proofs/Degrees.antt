@@ -4,7 +4,6 @@
 use mathlib.Core.Path.{_≡_, refl, sym, subst}
 use Prim.Native.Nat.{ℕ, _+_, _*_, _/_, _%_, _≤_}
 use native.Mathlib.Omega.{arith}
-use Rattle.algebra.specs.Ring.{CommRing}
 use Rattle.prime_field.specs.Field.{F}
 use Rattle.ideal.proofs.Leads.{Lead, ideal-space, lowering}
 use Rattle.divisor.specs.Kind.{Kind, code}

@@ -12,7 +12,7 @@ use native.Mathlib.Omega.{arith}
 use native.Mathlib.Decide.{decLe}
 use Rattle.algebra.specs.Ring.{CommRing}
 use Rattle.prime_field.specs.Field.{F}
-use Rattle.ideal.specs.Ideal.{IsIdeal, Product, Colon, SameIdeal, Equivalent}
+use Rattle.ideal.specs.Ideal.{Product, Colon, SameIdeal}
 use Rattle.ideal.specs.Poles.{HasPole}
 use Rattle.ideal.specs.Reduced.{Least}
 use Rattle.ideal.specs.Parts.{IdealSum}
@@ -30,7 +30,7 @@ use Rattle.ideal.proofs.Parts.{sum-left, sum-right, sum-ideal, sum-same, colon-
 use Rattle.ideal.proofs.Invertible.{scaled-ideal, invertible-whole}
 use Rattle.ideal.proofs.Swap.{scaled-equivalent, colon-equivalent, colon-combined, colon-inside, meet-based, parts-equivalent, sum-footprint}
 use Rattle.nonsingular.specs.Nonsingular.{Nonsingular}
-use Rattle.divisor.specs.Kind.{Kind, code, polynomials}
+use Rattle.divisor.specs.Kind.{code, polynomials}
 use Rattle.divisor.proofs.Table.{degree, kind-by}
 use Rattle.divisor.proofs.Members.{member, members-polynomials}
 use Rattle.divisor.proofs.Basis.{lead-basis}
@@ -41,7 +41,7 @@ use Rattle.basis.specs.declared.Divisor.{Divisor}
 use Rattle.basis.specs.Divisor.{residues}
 use Rattle.group.specs.Contract.{IsDivisor, ideal, NegativeAsked, NegativeOf}
 use Rattle.group.proofs.Divisor.{divisor-footprint, divisor-based}
-use Rattle.combination.specs.Contract.{value, MemberOf, combined, CombinationAsked}
+use Rattle.combination.specs.Contract.{value, MemberOf, CombinationAsked}
 use Rattle.combination.specs.declared.Polynomial.{Polynomial}
 use Rattle.parts.specs.declared.Places.{Places}
 use Rattle.parts.specs.Contract.{PlacesOf, LeastOf, OverlapOf, MeetAsked, MeetOf, InsideAsked, ApartIs}

@@ -10,7 +10,6 @@
 use mathlib.Core.Path.{_≡_}
 use mathlib.Core.Logic.{_⊎_}
 use Prim.Native.Nat.{ℕ, _/_, _<_, _≤_}
-use Rattle.algebra.specs.Ring.{CommRing}
 use Rattle.ideal.specs.Ideal.{Product, Colon, SameIdeal, Equivalent}
 use Rattle.ideal.specs.Reduced.{Least, IsReduced}
 use Rattle.ideal.specs.Parts.{IdealSum, Intersection}

@@ -6,7 +6,6 @@
 --   apart-asked, double-apart  the two that replace x and y where x lies inside y
 use mathlib.Core.Path.{_≡_}
 use Prim.Native.Nat.{ℕ, _/_, _≤_}
-use Rattle.algebra.specs.Ring.{CommRing}
 use Rattle.ideal.specs.Ideal.{Product, Equivalent}
 use Rattle.ideal.specs.Reduced.{IsReduced}
 use Rattle.ideal.proofs.Same.{same-refl}

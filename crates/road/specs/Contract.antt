@@ -2,8 +2,6 @@
 --   RoadAsked g a b        two divisors on a nonsingular curve
 --   RoadOf g a b r         the ideal of r is the reduced ideal of the product, as for group's sum
 --   DoubleOf g x y r       … where the ideal of x lies inside that of y, which is not the whole ring
-use mathlib.Core.Path.{_≡_}
-use Rattle.algebra.specs.Ring.{CommRing}
 use Rattle.ideal.specs.Ideal.{Product}
 use Rattle.ideal.specs.Reduced.{IsReduced}
 use Rattle.triple.specs.Setting.{ring, poles-of}

@@ -20,14 +20,14 @@ infixr 20 _&_
 abbrev _&_ : {A B : Type 0} → A → B → A × B
 a & b = (a, b)
 
-abbrev known-as : Kind → List (List E) → Known
+abbrev pub known-as : Kind → List (List E) → Known
 known-as κ qss = record { kind = κ; closed = qss }
 
-abbrev linked-by : (α β : E) (there back : List (List E)) → Link
+abbrev pub linked-by : (α β : E) (there back : List (List E)) → Link
 linked-by α β there back = record { α = α; β = β; there = there; back = back }
 
 -- Fx = 4x³ and Fy = 3y² on E, and Fx = 1 on D
-abbrev on-E : Smooth
+abbrev pub on-E : Smooth
 on-E = record { s = x; t = num 3 ⊠ y }
 
 abbrev on-D : Smooth
@@ -66,7 +66,7 @@ point-4 =
     ∷ ((num 4 ⊠ x ^^ 3 ⊞ x ^^ 2 ⊞ num 4 ⊠ x ⊞ unit) ∷ unit ∷ num 3 ∷ [])
     ∷ [])
 
-abbrev point-P : Known
+abbrev pub point-P : Known
 point-P =
     known-as k11
     ((num 4 ∷ x ∷ nil ∷ [])
@@ -109,7 +109,7 @@ thrice-P =
     ∷ [])
 
 -- (1, 2) − P
-abbrev difference : Known
+abbrev pub difference : Known
 difference =
     known-as k31
     ((num 2 ∷ (x ⊞ num 4) ∷ nil ∷ [])

@@ -12,3 +12,4 @@ pub mod Worked
 pub mod Fractions
 pub mod Points
 pub mod Words
+pub mod Parts

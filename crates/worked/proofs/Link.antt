@@ -7,6 +7,7 @@
 --   Link                   the certificate
 --   link c a b w κs k      the test; sum-sound: w is the sum of a and b
 --   polynomials-of κ w     the polynomials of a record in bytes as expressions; ideal-values: they generate its ideal
+--   product-values         the products of the polynomials of two records generate the product of their ideals
 use mathlib.Core.Path.{_≡_, refl, sym, _∙_, ap, ap₂, subst}
 use mathlib.Core.Bool.{Bool, true}
 use mathlib.Core.List.{List, [], _∷_, _++_, map}
@@ -149,26 +150,22 @@ module _ (c : List ℕ) where
       (sym (values-polynomials (modulus c) (coefficient-number c) κ (numbers-of w)))
       (ideal-reads (modulus c) (equation c) κ w e)
 
+  -- the product of the ideals of two records is what the products of their polynomials generate
+  pub product-values : (κa κb : Kind) (a b : List ℕ) → of-kind a κa → of-kind b κb
+      → SameIdeal (Ring c) (Product (Ring c) (Ideal c a) (Ideal c b))
+      (Generated (Ring c) (values (modulus c) (coefficient-number c) (products-xy (polynomials-of κa a) (polynomials-of κb b))))
+  product-values κa κb a b ea eb =
+      subst (λ us. SameIdeal (Ring c) (Product (Ring c) (Ideal c a) (Ideal c b)) (Generated (Ring c) us))
+      (sym (values-products (modulus c) (coefficient-number c) (polynomials-of κa a) (polynomials-of κb b)))
+      (same-trans (Ring c) (product-same (Ring c) (ideal-values κa a ea) (ideal-values κb b eb))
+      (generated-product (Ring c) (values (modulus c) (coefficient-number c) (polynomials-of κa a)) (values (modulus c) (coefficient-number c) (polynomials-of κb b))))
+
   module _ (A : AcceptedCurve c) (a b w : List ℕ) (κa κb κw : Kind) (ea : of-kind a κa) (eb : of-kind b κb) (ew : of-kind w κw) where
-    abbrev p : ℕ
-    p = modulus c
-
-    abbrev n : ℕ → ℕ
-    n = coefficient-number c
-
-    abbrev gs : List E
-    gs = products-xy (polynomials-of κa a) (polynomials-of κb b)
-
-    product-values : SameIdeal (Ring c) (Product (Ring c) (Ideal c a) (Ideal c b)) (Generated (Ring c) (values p n gs))
-    product-values =
-        subst (λ us. SameIdeal (Ring c) (Product (Ring c) (Ideal c a) (Ideal c b)) (Generated (Ring c) us))
-        (sym (values-products p n (polynomials-of κa a) (polynomials-of κb b)))
-        (same-trans (Ring c) (product-same (Ring c) (ideal-values κa a ea) (ideal-values κb b eb))
-        (generated-product (Ring c) (values p n (polynomials-of κa a)) (values p n (polynomials-of κb b))))
-
     pub sum-sound : Record c w → (k : Link) → T (link c a b w κa κb κw k) → IsSum c a b w
     sum-sound r k t =
         class-reduced c A w r
-        (equivalent-trans (poles-on c A) (equivalent-same (poles-on c A) product-values)
-        (equivalent-trans (poles-on c A) (linked-sound p n (omega (arith, accepted-prime c A .two-le)) gs (polynomials-of κw w) k t)
+        (equivalent-trans (poles-on c A) (equivalent-same (poles-on c A) (product-values κa κb a b ea eb))
+        (equivalent-trans (poles-on c A)
+        (linked-sound (modulus c) (coefficient-number c) (omega (arith, accepted-prime c A .two-le))
+        (products-xy (polynomials-of κa a) (polynomials-of κb b)) (polynomials-of κw w) k t)
         (equivalent-same (poles-on c A) (same-sym (Ring c) (ideal-values κw w ew)))))

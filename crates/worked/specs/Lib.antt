@@ -3,3 +3,4 @@ pub mod Table
 pub mod Fractions
 pub mod Points
 pub mod Words
+pub mod Parts

@@ -1,0 +1,2 @@
+-- What the calls on the common part of two divisors give.
+pub mod Asked
