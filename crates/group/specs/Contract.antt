@@ -2,7 +2,7 @@
 --   IsDivisor S r      r is a basis of some kind on the curve of S
 --   ideal S r D        its ideal
 --   NegativeAsked, NegativeOf      negative: the ideal of the result is I*
---   SumAsked, SumOf                sum: it is the reduced ideal of the product
+--   SumAsked, SumIs, SumOf         sum: it is the reduced ideal of the product
 --   ProductStarOf                  product_star: it is J*, for the product J
 --   ZeroClass r                    zero_class: kind 0, and no number
 use mathlib.Core.Path.{_≡_}
@@ -40,11 +40,13 @@ pub record SumAsked (g : Ground) (a b : Divisor) : Type 0 where
   pub a-is : IsDivisor (grounded .ready .setting) a
   pub b-is : IsDivisor (grounded .ready .setting) b
 
-abbrev pub SumOf : (g : Ground) (a b r : Divisor) → Type 0
-SumOf g a b r =
-    (A : SumAsked g a b) →
+abbrev pub SumIs : {g : Ground} {a b : Divisor} → SumAsked g a b → Divisor → Type 0
+SumIs {g} {a} {b} A r =
     let S = A .grounded .ready .setting in
     (D : IsDivisor S r) × IsReduced (poles-of S) (Product (ring S) (ideal S a (A .a-is)) (ideal S b (A .b-is))) (ideal S r D)
+
+abbrev pub SumOf : (g : Ground) (a b r : Divisor) → Type 0
+SumOf g a b r = (A : SumAsked g a b) → SumIs A r
 
 abbrev pub ProductStarOf : (g : Ground) (a b r : Divisor) → Type 0
 ProductStarOf g a b r =

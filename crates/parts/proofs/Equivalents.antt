@@ -59,7 +59,7 @@ abbrev S-of : {g : Ground} {x y : Divisor} → InsideAsked g x y → Setting (g 
 S-of A = A .pair .grounded .ready .setting
 
 module _ {g : Ground} {x y n : Divisor} {f : Polynomial} (neg : NegativeOf g x n) (l : LeastOf x f) where
-  module _ {j : ℕ} (b : j < 3) {u : Polynomial} (m : MemberOf n j u) where
+  module _ {j : ℕ} {u : Polynomial} (m : MemberOf n j u) (b : j < 3) where
     pub other-asked : InsideAsked g x y → CombinationAsked g u x f y
     other-asked A =
         let k = l (g .p) (S-of A) (A .pair .a-is) in
@@ -216,8 +216,8 @@ module _ {g : Ground} {x y n : Divisor} {f : Polynomial} (neg : NegativeOf g x n
           where
             at-one : (j ≡ q .first) ⊎ ((j ≡ q .second) ⊎ (j ≡ q .third)) → Product (ring T) K E (at j)
             at-one (inl e) = subst (λ i. Product (ring T) K E (at i)) (sym e) first-in
-            at-one (inr (inl e)) = subst (λ i. Product (ring T) K E (at i)) (sym e) (other-in (h .second-below) m (other-inside (h .second-below) m A o large))
-            at-one (inr (inr e)) = subst (λ i. Product (ring T) K E (at i)) (sym e) (other-in (h .third-below) m′ (other-inside (h .third-below) m′ A o′ large′))
+            at-one (inr (inl e)) = subst (λ i. Product (ring T) K E (at i)) (sym e) (other-in (h .second-below) m (other-inside m (h .second-below) A o large))
+            at-one (inr (inr e)) = subst (λ i. Product (ring T) K E (at i)) (sym e) (other-in (h .third-below) m′ (other-inside m′ (h .third-below) A o′ large′))
 
         whole : ((j : ℕ) → j < 3 → Product (ring T) K E (at j)) → (e : ring T .Car) → E e
         whole all =

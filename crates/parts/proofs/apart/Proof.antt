@@ -1,4 +1,5 @@
 -- `parts::apart` meets its contract: one of the two polynomials tried gives a smaller common part.
+use native.Mathlib.Omega.{arith}
 use borrow.Author.Needs.{needs}
 use Rattle.parts.proofs.Equivalents.{other-asked, other-meet-asked, apart-is, third-smaller}
 use Rattle.parts.proofs.apart.Statement.{statement}
@@ -19,19 +20,19 @@ member-requires c κs = search needs
 overlap-requires : tie.Need-overlap-requires
 overlap-requires c κs =
     let places = c .before .places-of .ensures in
-    other-asked (c .before .before .before .negative .ensures) (c .before .before .least .ensures) (places .second-below) (c .member .ensures) (c .before .before .before .before .pre)
+    other-asked (c .before .before .before .negative .ensures) (c .before .before .least .ensures) (c .member .ensures) (places .second-below) (c .before .before .before .before .pre)
 
 meet-requires : tie.Need-meet-requires
 meet-requires c κs =
     let tried = c .before .before .before .before in
     let places = tried .before .places-of .ensures in
-    other-meet-asked (tried .before .before .before .negative .ensures) (tried .before .before .least .ensures) (places .second-below) (tried .member .ensures) (tried .before .before .before .before .pre)
+    other-meet-asked (tried .before .before .before .negative .ensures) (tried .before .before .least .ensures) (tried .member .ensures) (places .second-below) (tried .before .before .before .before .pre)
 
 returns : tie.Need-returns
 returns c A =
     let tried = c .before .before .before .before .before in
     let places = tried .before .places-of .ensures in
-    apart-is (tried .before .before .before .negative .ensures) (tried .before .before .least .ensures) (places .second-below) (tried .member .ensures) A (c .before .before .before .before .overlap .ensures)
+    apart-is (tried .before .before .before .negative .ensures) (tried .before .before .least .ensures) (tried .member .ensures) (places .second-below) A (c .before .before .before .before .overlap .ensures)
     (c .meet .ensures) (c .before .if1 .taken)
 
 member-requires-2 : tie.Need-member-requires-2
@@ -41,13 +42,13 @@ overlap-requires-2 : tie.Need-overlap-requires-2
 overlap-requires-2 c κs =
     let tried = c .before .before .before .before .before in
     let places = tried .before .places-of .ensures in
-    other-asked (tried .before .before .before .negative .ensures) (tried .before .before .least .ensures) (places .third-below) (c .member2 .ensures) (tried .before .before .before .before .pre)
+    other-asked (tried .before .before .before .negative .ensures) (tried .before .before .least .ensures) (c .member2 .ensures) (omega (arith, places .first-below, places .third-below)) (tried .before .before .before .before .pre)
 
 meet-requires-2 : tie.Need-meet-requires-2
 meet-requires-2 c κs =
     let tried = c .before .before .before .before .before .before in
     let places = tried .before .places-of .ensures in
-    other-meet-asked (tried .before .before .before .negative .ensures) (tried .before .before .least .ensures) (places .third-below) (c .before .member2 .ensures) (tried .before .before .before .before .pre)
+    other-meet-asked (tried .before .before .before .negative .ensures) (tried .before .before .least .ensures) (c .before .member2 .ensures) (omega (arith, places .first-below, places .third-below)) (tried .before .before .before .before .pre)
 
 returns-2 : tie.Need-returns-2
 returns-2 c A =
@@ -55,7 +56,7 @@ returns-2 c A =
     let places = tried .before .places-of .ensures in
     let negative = tried .before .before .before .negative .ensures in
     let least = tried .before .before .least .ensures in
-    apart-is negative least (places .third-below) (c .before .before .member2 .ensures) A (c .before .overlap2 .ensures) (c .meet2 .ensures)
+    apart-is negative least (c .before .before .member2 .ensures) (omega (arith, places .first-below, places .third-below)) A (c .before .overlap2 .ensures) (c .meet2 .ensures)
     (third-smaller negative least places (tried .member .ensures) (c .before .before .member2 .ensures) (c .before .before .before .before .before .before .overlap .ensures) (c .before .overlap2 .ensures) A
     (c .before .before .before .if1 .left))
 
