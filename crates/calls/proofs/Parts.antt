@@ -4,7 +4,8 @@
 --   parts-product          (I ∩ J)·(I + J) = I·J
 --   parts-class            the product of the ideals of the common multiple and the common part is equivalent to I·J
 --   parts-sum, sum-parts   w is the sum of a and b exactly if it is the sum of the common multiple and the common part
-use mathlib.Core.Path.{_≡_}
+--   inside-part, inside-multiple       if I lies inside J, the common part is b, and the common multiple a
+use mathlib.Core.Path.{_≡_, sym, subst}
 use mathlib.Core.List.{List}
 use Prim.Native.Nat.{ℕ}
 use Rattle.ideal.specs.Ideal.{IsIdeal, Product, SameIdeal, Equivalent}
@@ -13,12 +14,12 @@ use Rattle.ideal.specs.Parts.{IdealSum, Intersection}
 use Rattle.ideal.specs.Invertible.{InvertibleIdeal}
 use Rattle.ideal.proofs.Same.{same-refl, same-sym, same-trans}
 use Rattle.ideal.proofs.Class.{equivalent-same, equivalent-sym, equivalent-trans}
-use Rattle.ideal.proofs.Parts.{intersection-ideal}
+use Rattle.ideal.proofs.Parts.{sum-right, intersection-ideal}
 use Rattle.ideal.proofs.Swap.{meet-based, parts-equivalent}
 use Rattle.ideal.proofs.Invertible.{invertible-same, invertible-parts}
 use Rattle.record.specs.Curve.{AcceptedCurve}
 use Rattle.record.proofs.Invertible.{accepted-invertible}
-use Rattle.calls.specs.Class.{Ring, Ideal, poles-on, IsSum, IsCommonPart, IsCommonMultiple}
+use Rattle.calls.specs.Class.{Ring, Record, Ideal, poles-on, IsSum, IsCommonPart, IsCommonMultiple}
 use Rattle.calls.proofs.Class.{Accepted, accepted-based, accepted-ideal, class-reduced, reduced-class, record-same, reduced-one, sum-class}
 use Rattle.calls.proofs.Exists.{part-record}
 
@@ -65,3 +66,18 @@ module _ (c : List ℕ) (A : AcceptedCurve c) (a b : List ℕ) (ha : Accepted c 
     sum-parts h =
         class-reduced c A w (h .accepted)
         (equivalent-trans P (equivalent-sym P (parts-class l d hl hd)) (sum-class c A l d w (hl .accepted .1) (hd .accepted .1) h))
+
+module _ (c : List ℕ) (A : AcceptedCurve c) (a b : List ℕ) (ra : Record c a) (rb : Record c b) (inside : (h : Ring c .Car) → Ideal c a h → Ideal c b h) where
+  pub inside-part : IsCommonPart c a b b
+  inside-part =
+      record {
+        curve = A;
+        accepted = rb;
+        same = λ h. (
+          sum-right (Ring c) (accepted-ideal c A a (ra .1)),
+          λ (i, j, mi, mj, e). subst (Ideal c b) (sym e) (accepted-ideal c A b (rb .1) .sum (inside i mi) mj),
+        );
+      }
+
+  pub inside-multiple : IsCommonMultiple c a b a
+  inside-multiple = class-reduced c A a ra (equivalent-same (poles-on c A) (λ h. (λ m. m .0, λ m. (m, inside h m))))

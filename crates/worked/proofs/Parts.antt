@@ -1,8 +1,6 @@
 -- Document 02, 2026-04: common part, common multiple and sum of 2P + (1, 2) and P, on E. The first of them is the record larger.
 --   held p n gs hs qss     test: each of gs is a combination of hs, with the factors qss; held-inside: then what gs generate lies inside
 --                          what hs generate
---   inside-part            if the ideal of a lies inside that of b, then b is the common part of a and b
---   inside-multiple        … and a their common multiple
 --   larger-inside          the ideal of larger lies inside that of P
 --   larger-product         … and is the product of the ideals of 2P and (1, 2)
 --   written                the one result of two accepted records on E is what the call writes, and nothing else
@@ -24,8 +22,6 @@ use Rattle.ideal.specs.Ideal.{Generated, Product, SameIdeal}
 use Rattle.ideal.proofs.Same.{same-sym, same-trans}
 use Rattle.ideal.proofs.Every.{Every}
 use Rattle.ideal.proofs.Generated.{generated-ideal, generated-in}
-use Rattle.ideal.proofs.Class.{equivalent-same}
-use Rattle.ideal.proofs.Parts.{sum-right}
 use Rattle.powers.specs.Power.{Inside}
 use Rattle.curve.specs.Curve.{Coordinate}
 use Rattle.divisor.specs.Kind.{k11, k21, k31}
@@ -33,10 +29,10 @@ use Rattle.layout.specs.Layout.{number2, number4, bytes2, bytes4, all-bytes4, r
 use Rattle.record.specs.Cause.{Stage}
 use Rattle.record.specs.Curve.{modulus, coefficient-number, curve-stages, AcceptedCurve}
 use Rattle.calls.specs.Answer.{Writes}
-use Rattle.calls.specs.Class.{Ring, Record, Ideal, poles-on, IsSum, IsCommonPart, IsCommonMultiple}
+use Rattle.calls.specs.Class.{Ring, Record, Ideal, IsSum, IsCommonPart, IsCommonMultiple}
 use Rattle.calls.specs.Call.{divisor-of, room}
-use Rattle.calls.proofs.Class.{Accepted, accepted-ideal, class-reduced, sum-one}
-use Rattle.calls.proofs.Parts.{part-one, common-multiple-one}
+use Rattle.calls.proofs.Class.{Accepted, sum-one}
+use Rattle.calls.proofs.Parts.{part-one, common-multiple-one, inside-part, inside-multiple}
 use Rattle.calls.proofs.Answers.{two-sound, writes-one, writes-enough}
 use Rattle.calls.proofs.Exists.{two-passes}
 use Rattle.worked.specs.Table.{E, P, one-two, sum}
@@ -69,21 +65,6 @@ module _ (p : ℕ) (n : ℕ → ℕ) where
   held-inside : (gs hs : List norm.E) (qss : List (List norm.E)) → T (held p n gs hs qss)
       → Inside R (Generated R (values p n gs)) (Generated R (values p n hs))
   held-inside gs hs qss t = generated-in R (generated-ideal R (values p n hs)) (values p n gs) (held-each gs hs qss t)
-
-module _ (c : List ℕ) (A : AcceptedCurve c) (a b : List ℕ) (ra : Record c a) (rb : Record c b) (inside : Inside (Ring c) (Ideal c a) (Ideal c b)) where
-  inside-part : IsCommonPart c a b b
-  inside-part =
-      record {
-        curve = A;
-        accepted = rb;
-        same = λ h. (
-          sum-right (Ring c) (accepted-ideal c A a (ra .1)),
-          λ (i, j, mi, mj, e). subst (Ideal c b) (sym e) (accepted-ideal c A b (rb .1) .sum (inside i mi) mj),
-        );
-      }
-
-  inside-multiple : IsCommonMultiple c a b a
-  inside-multiple = class-reduced c A a ra (equivalent-same (poles-on c A) (λ h. (λ m. m .0, λ m. (m, inside h m))))
 
 -- how y times each member of larger is made of its members; how x times the product of the ideals of larger and P is y + 1 times that of total
 abbrev known-larger : Known
