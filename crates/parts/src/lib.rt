@@ -20,6 +20,7 @@ pub struct Parts {
     pub part: Divisor,
 }
 
+// The places by the kind; those of the kinds 0, 11 and 31 are alike.
 fn places_of(kind: u32) -> Places
     ensures { λ r. ⌜ PlacesOf kind r ⌝ }
 {
@@ -92,7 +93,7 @@ pub fn common_multiple(g: Ground, x: Divisor, y: Divisor) -> Divisor
 }
 
 // For I inside J: common multiple and common part of A and J, where A = (u : I*) is equivalent to I and does not lie inside J. u is the second
-// polynomial of I*, or the third.
+// polynomial of I*, or the third where the degree of the common part, the tens of its kind, shows that the second does not serve.
 pub fn apart(g: Ground, x: Divisor, y: Divisor) -> Parts
     requires { ⌜ InsideAsked g x y ⌝ }
     ensures { λ r. ⌜ ApartOf g x y r ⌝ }
