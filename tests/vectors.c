@@ -5,18 +5,16 @@
 
      negsum C LIST L   the negative of the list sum */
 #include "pages.h"
+#include "program.h"
 #include <stdio.h>
 #include <stdlib.h>
 #include <string.h>
-#include <sys/wait.h>
-#include <unistd.h>
 
 enum { ROOM = 1 << 18, WORDS = 8, NUMBERS = 18 };
 
 static char argument[WORDS][ROOM]; /* the arguments of this line, for the next one's dittos */
 static uint8_t bytes[WORDS][ROOM], want[ROOM];
 static size_t length[WORDS];
-static char output[ROOM]; /* of the counting program */
 
 /* ---- reading ---- */
 
@@ -149,39 +147,9 @@ static int buffer_is(const struct call *c, size_t n)
 
 /* ---- the counting program ---- */
 
-/* Runs it on n bytes of standard input; its output ends up in `output`. */
-static void run_program(const char *program, const uint8_t *in, size_t n)
+/* The output is `text` with ' / ' for each end of a line but the last. */
+static int output_is(const char *o, const char *text)
 {
-    int from[2];
-    FILE *input = tmpfile();
-    require(input != NULL && fwrite(in, 1, n, input) == n && fflush(input) == 0, "no temporary file", NULL);
-    rewind(input);
-    require(pipe(from) == 0, "no pipe", NULL);
-    pid_t child = fork();
-    if (child == 0) {
-        dup2(fileno(input), 0);
-        dup2(from[1], 1);
-        close(from[0]);
-        close(from[1]);
-        execl(program, program, (char *)NULL);
-        _exit(127);
-    }
-    close(from[1]);
-    size_t m = 0;
-    for (ssize_t r; (r = read(from[0], output + m, ROOM - 1 - m)) > 0;)
-        m += (size_t)r;
-    output[m] = 0;
-    close(from[0]);
-    fclose(input);
-    int status = 0;
-    waitpid(child, &status, 0);
-    require(WIFEXITED(status) && WEXITSTATUS(status) == 0, "the counting program did not end with status 0", NULL);
-}
-
-/* `text` with ' / ' for each end of a line but the last. */
-static int output_is(const char *text)
-{
-    const char *o = output;
     for (; *text != 0; o++) {
         if (strncmp(text, " / ", 3) == 0) {
             text += 2;
@@ -220,8 +188,7 @@ static int line(char *text, const char *program)
     if (strcmp(text, "prog") == 0) {
         if (program == NULL)
             return -1;
-        run_program(program, bytes[0], length[0]);
-        return output_is(answer);
+        return output_is(run_program(program, bytes[0], length[0]), answer);
     }
     int32_t e = make(text, count, &c);
     char *record = strchr(answer, ' ');
@@ -250,6 +217,6 @@ int main(int argc, char **argv)
     }
     printf("vectors: %d of %s agree", good, argv[1]);
     printf(omitted == 0 ? "\n" : ", %d of the counting program left out\n", omitted);
-    require(good > 0, "no vector", NULL);
+    require(good + omitted > 0, "no vector", NULL);
     return 0;
 }

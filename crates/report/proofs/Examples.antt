@@ -1,5 +1,6 @@
--- Lines that document 01 gives, and which records are typical, computed.
---   one-of-32, none-of-3, all-typical, empty-list    lines of the share
+-- Lines that documents 01 and 02 give, and which records are typical, computed.
+--   one-of-32, three-of-32    lines of the share at a half
+--   two-of-3, none-of-3, all-typical, empty-list    other lines of the share
 --   kinds-of-the-example, sum-of-the-example, zero-sum, refused-11    the other lines
 --   typical-31, not-typical-22    a record of kind 31 is typical, one of kind 22 is not
 use mathlib.Core.Path.{_≡_, refl}
@@ -11,10 +12,18 @@ use Rattle.layout.specs.Layout.{number2, number4, numbers, bytes2, bytes4, all-
 use Rattle.calls.specs.Class.{zero-record}
 use Rattle.report.specs.Report.{typical, per-cent, share-line, count-line, count-lines, spaced, sum-line, refused-line}
 
--- "One typical record among 32 gives `share 3.13`."
-pub one-of-32 : share-line 1 32 ≡ ascii "share 3.13\n"
+-- Document 02, 2026-05: "One typical record in 32 then prints 3.12, and three in 32 still print 9.38."
+pub one-of-32 : share-line 1 32 ≡ ascii "share 3.12\n"
 unfolding share-line per-cent decimal decimal-upto two-digits
 one-of-32 = refl
+
+pub three-of-32 : share-line 3 32 ≡ ascii "share 9.38\n"
+unfolding share-line per-cent decimal decimal-upto two-digits
+three-of-32 = refl
+
+pub two-of-3 : share-line 2 3 ≡ ascii "share 66.67\n"
+unfolding share-line per-cent decimal decimal-upto two-digits
+two-of-3 = refl
 
 pub none-of-3 : share-line 0 3 ≡ ascii "share 0.00\n"
 unfolding share-line per-cent decimal decimal-upto two-digits

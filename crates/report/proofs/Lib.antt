@@ -2,3 +2,4 @@
 pub mod Cut
 pub mod Determined
 pub mod Examples
+pub mod Rounded

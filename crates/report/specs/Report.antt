@@ -1,7 +1,8 @@
--- Document 01, "The counting program": what it prints, in bytes, for each input.
+-- Document 01, "The counting program", with document 02, 2026-05: what it prints, in bytes, for each input.
 --   curve-part, list-part    "the first 44 bytes (or all, if fewer) are the curve, the rest a list"
 --   typical r, typicals rs   whether a record is typical; how many of the records are
---   rounded a b              a / b as a whole number, a half rounded upward
+--   upward q r b             whether q + r / b is rounded upward, to q + 1
+--   rounded a b              a / b as a whole number, a half rounded to the even one
 --   per-cent h               h hundredths with two decimals
 --   share-line t n           the line of the share, for t typical records among n
 --   count-line name n        a line with a name and a number
@@ -14,10 +15,10 @@
 --   Report input text        … for the input
 use mathlib.Core.Path.{_≡_}
 use mathlib.Core.List.{List, [], _∷_, _++_}
-use mathlib.Core.Bool.{Bool}
+use mathlib.Core.Bool.{Bool, _&&_, _||_}
 use Prim.Native.Nat.{ℕ, zero, suc, _+_, _*_, _-_, _/_, _%_}
 use lib.ListN.{length, take, drop}
-use lib.Dec.{eqb}
+use lib.Dec.{eqb, ltb}
 use Rattle.text.specs.Ascii.{ascii}
 use Rattle.text.specs.Decimal.{decimal, two-digits}
 use Rattle.layout.specs.Layout.{number2, numbers}
@@ -41,9 +42,13 @@ abbrev pub typicals : List (List ℕ) → ℕ
 typicals [] = 0
 typicals (r ∷ rs) = one-if (typical r) + typicals rs
 
--- "a half in the last place rounded upward"
+-- Document 02, 2026-05: "round a half in the last place to the even digit". With the quotient q and the rest r by b: upward if 2·r is
+-- above b, or if it is b and q is odd.
+abbrev pub upward : (q r b : ℕ) → Bool
+upward q r b = ltb b (2 * r) || eqb (2 * r) b && eqb (q % 2) 1
+
 abbrev pub rounded : ℕ → ℕ → ℕ
-rounded a b = (2 * a + b) / (2 * b)
+rounded a b = a / b + one-if (upward (a / b) (a % b) b)
 
 unfoldable pub per-cent : ℕ → List ℕ
 per-cent h = decimal (h / 100) ++ ascii "." ++ two-digits (h % 100)

@@ -4,10 +4,11 @@
 use mathlib.Core.Path.{_≡_, refl}
 use mathlib.Core.List.{_++_}
 use Prim.Native.Nat.{ℕ, zero, suc, _*_, _≤_, _<_}
-use native.Mathlib.Nat.{div-lt-iff-lt-mul}
+use native.Mathlib.Nat.{lt-of-mul-lt-mul-right}
 use native.Mathlib.Omega.{arith}
 use Rattle.text.specs.Ascii.{ascii}
 use Rattle.report.specs.Report.{rounded, per-cent, share-line}
+use Rattle.report.proofs.Rounded.{rounded-nearest}
 
 pub share-none : (t n : ℕ) → n ≡ 0 → share-line t n ≡ ascii "share none\n"
 unfolding share-line
@@ -21,5 +22,5 @@ share-some t (suc n) h = refl
 
 pub share-small : (t n : ℕ) → t ≤ n → 0 < n → rounded (10000 * t) n ≤ 10000
 share-small t n h p =
-    let less : rounded (10000 * t) n < 10001 = div-lt-iff-lt-mul {k = 2 * n} (omega arith) .1 (omega arith) in
+    let less : rounded (10000 * t) n < 10001 = lt-of-mul-lt-mul-right n (omega (arith, rounded-nearest (10000 * t) n p .0)) in
     omega arith

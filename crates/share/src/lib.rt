@@ -5,14 +5,25 @@ ghost use Prim.Native.Nat.{_+_, _≤_, _<_};
 ghost use Rattle.text.specs.Put.{Placed};
 ghost use Rattle.report.specs.Report.{rounded, per-cent, share-line};
 
-// a / b as a whole number, a half rounded upward.
+// a / b as a whole number, a half rounded to the even one.
 fn rounded(a: u64, b: u64) -> u64
     requires { ⌜ a < 4611686018427387904 ⌝ }
     requires { ⌜ 0 < b ⌝ }
     requires { ⌜ b < 4611686018427387904 ⌝ }
     ensures { λ r. ⌜ r ≡ rounded a b ⌝ }
 {
-    (2 * a + b) / (2 * b)
+    let quotient = a / b;
+    let twice = 2 * (a % b);
+    if twice < b {
+        return quotient;
+    }
+    if b < twice {
+        return quotient + 1;
+    }
+    if quotient % 2 == 0 {
+        return quotient;
+    }
+    quotient + 1
 }
 
 // Hundredths with two decimals.
