@@ -1,4 +1,4 @@
--- What is printed is one text for each input, with document 01's examples.
+-- What is printed is one text for each input; what rounding does; the examples of documents 01 and 02.
 pub mod Cut
 pub mod Determined
 pub mod Examples

@@ -45,7 +45,7 @@ typicals (r ∷ rs) = one-if (typical r) + typicals rs
 -- Document 02, 2026-05: "round a half in the last place to the even digit". With the quotient q and the rest r by b: upward if 2·r is
 -- above b, or if it is b and q is odd.
 abbrev pub upward : (q r b : ℕ) → Bool
-upward q r b = ltb b (2 * r) || eqb (2 * r) b && eqb (q % 2) 1
+upward q r b = ltb b (2 * r) || (eqb (2 * r) b && eqb (q % 2) 1)
 
 abbrev pub rounded : ℕ → ℕ → ℕ
 rounded a b = a / b + one-if (upward (a / b) (a % b) b)
