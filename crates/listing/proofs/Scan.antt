@@ -8,7 +8,7 @@
 --   seen-three             three points at most are seen
 use mathlib.Core.Path.{_≡_, refl, sym, _∙_, ap₂, subst}
 use mathlib.Core.Logic.{inl, inr}
-use mathlib.Core.List.{List, [], _++_}
+use mathlib.Core.List.{List, [], _++_, IsChain·nil}
 use Prim.Native.Nat.{ℕ, suc, _+_, _<_, _≤_}
 use native.Mathlib.Omega.{arith}
 use native.Mathlib.Decide.{decLt, ℕ-discrete}
@@ -17,8 +17,9 @@ use Rattle.powers.specs.Power.{Inside}
 use Rattle.record.specs.Curve.{modulus, equation, AcceptedCurve}
 use Rattle.record.specs.Divisor.{AcceptedDivisor}
 use Rattle.calls.specs.Class.{Ring, Ideal}
-use Rattle.point.specs.Point.{Pair, Point, PointPower, IsMultiplicity, IsPoints, AllPoints, times}
-use Rattle.point.proofs.Times.{same-pair, times-append, times-replicate, times-replicate-other, points-append, points-replicate}
+use Rattle.point.specs.Point.{Pair, Point, PointPower, IsMultiplicity, IsPoints, AllPoints, Rises, times}
+use Rattle.point.proofs.Times.{same-pair, times-append, times-replicate, times-replicate-other, times-every, points-append, points-replicate}
+use Rattle.point.proofs.Order.{rising-copies}
 use Rattle.point.proofs.Degree.{points-three}
 use Rattle.listing.specs.Contract.{Counted, Before, Seen}
 
@@ -40,7 +41,7 @@ before-dec (a, b) (a′, b′) = go (decLt a′ a) (ℕ-discrete a′ a) (decLt 
         none (inr (h, k)) = e h
 
 pub seen-start : (c w : List ℕ) → Seen c w [] (0, 0)
-seen-start c w = record { points = tt; often = λ r p b. absurd (none r b); later = λ r b. nothing r }
+seen-start c w = record { points = tt; often = λ r p b. absurd (none r b); later = λ r b. nothing r; rising = IsChain·nil }
   where
     none : (r : Pair) → ¬ Before (0, 0) r
     none (a, b) (inl l) = omega arith
@@ -58,7 +59,12 @@ module _ {c w : List ℕ} {ps : List Pair} where
   further : {q q′ : Pair} → Seen c w ps q → ((r : Pair) → Before q r → Before q′ r)
       → ((r : Pair) → Point c r → Before q′ r → ¬ Before q r → IsMultiplicity c w r 0) → Seen c w ps q′
   further {q} {q′} s up none =
-      record { points = s .points; often = λ r p b. go r p b (before-dec q r); later = λ r n. s .later r (λ b. n (up r b)) }
+      record {
+        points = s .points;
+        often = λ r p b. go r p b (before-dec q r);
+        later = λ r n. s .later r (λ b. n (up r b));
+        rising = s .rising;
+      }
     where
       go : (r : Pair) → Point c r → Before q′ r → Dec (Before q r) → IsMultiplicity c w r (times r ps)
       go r p b (yes d) = s .often r p d
@@ -133,8 +139,21 @@ module _ {c w : List ℕ} {ps : List Pair} where
             points = points;
             often = λ r p h. often r p h (same-pair r (a, b));
             later = λ r h. later r h (same-pair r (a, b));
+            rising = rising-copies ps (a, b) k (s .rising) (times-every (λ r. Rises r (a, b)) ps followed);
           }
         where
+          -- what stands in ps came before (a, b)
+          rises : (r : Pair) → Before (a, b) r → Rises r (a, b)
+          rises (x, y) (inl h) = inl h
+          rises (x, y) (inr (e, h)) = inr (e, omega arith)
+
+          followed : (r : Pair) → ¬ (times r ps ≡ 0) → Rises r (a, b)
+          followed r n = go (before-dec (a, b) r)
+            where
+              go : Dec (Before (a, b) r) → Rises r (a, b)
+              go (yes h) = rises r h
+              go (no h) = absurd (n (s .later r h))
+
           multiplicity : Counted c w (a, b) k → Point c (a, b) → IsMultiplicity c w (a, b) k
           multiplicity (inl (p, m)) q = m
           multiplicity (inr (n, e)) q = absurd (n q)
@@ -169,7 +188,7 @@ module _ {c w : List ℕ} {ps : List Pair} where
         gap (x, y) p (inr (e, h)) n = absurd (omega arith)
 
     pub seen-all : modulus c ≤ a → IsPoints c w ps
-    seen-all l = record { points = s .points; often = λ r p. s .often r p (inside r p) }
+    seen-all l = record { points = s .points; often = λ r p. s .often r p (inside r p); rising = s .rising }
       where
         inside : (r : Pair) → Point c r → Before (a, 0) r
         inside (x, y) p = inl (omega (arith, p .0 .0))

@@ -6,7 +6,7 @@
 --   StandsAsked, Stands    stands: k is found so
 --   PutAsked, Put          put: a pair put k times behind n pairs
 --   Before (a, b) q        q comes before (a, b) in a scan of x, and of y at each x
---   Seen c w ps q          ps are the points that come before q, each as often as its multiplicity
+--   Seen c w ps q          ps are the points that come before q, each as often as its multiplicity, in rising order
 --   Held out ps n out′     the n pairs ps are put into the slice out, the rest of it is as it was
 --   Reached g r first q n out     the n points before q are in the slice
 --   AtAsked, ListedAt      list_at: the points with x = a
@@ -20,7 +20,7 @@ use Rattle.ground.specs.declared.Ground.{Ground}
 use Rattle.basis.specs.declared.Divisor.{Divisor}
 use Rattle.basis.specs.Contract.{TripleOf}
 use Rattle.reader.specs.Reading.{On, GivenOn}
-use Rattle.point.specs.Point.{Pair, Point, AllPoints, IsMultiplicity, IsPoints, times}
+use Rattle.point.specs.Point.{Pair, Point, AllPoints, IsMultiplicity, IsPoints, Rising, times}
 use Rattle.point.specs.PointCall.{coordinates, points-room}
 
 abbrev pub Divided : Ground → Divisor → Type 0
@@ -52,6 +52,7 @@ pub record Seen (c w : List ℕ) (ps : List Pair) (q : Pair) : Type 0 where
   pub points : AllPoints c ps
   pub often : (r : Pair) → Point c r → Before q r → IsMultiplicity c w r (times r ps)
   pub later : (r : Pair) → (¬ Before q r) → times r ps ≡ 0
+  pub rising : Rising ps
 
 pub record Held (out : List ℕ) (ps : List Pair) (n : ℕ) (out′ : List ℕ) : Type 0 where
   pub many : n ≡ length ps

@@ -1,14 +1,13 @@
 -- Copies of a point, and lists of as many points as the degree.
---   copies             a list in which every pair stands as often as in n copies of q is n copies of q
 --   Within c d q k     the ideal of d lies inside the k-th power of the ideal of q
 --   within-copies      a divisor inside the n-th power of q is inside the power times r (n copies of q) of each r
 --   most-three         a divisor inside the n-th power of a point: n is at most 3
 --   accepted-point     a pair whose record is accepted is on the curve
---   full-points        if a divisor lies inside the power times q ps of each point q, and ps is as long as its degree, it has the points ps
+--   full-points        if a divisor lies inside the power times q ps of each point q, and ps rises and is as long as its degree, it has the points ps
 -- full-points: a point more would be more points than the degree (points-bound).
-use mathlib.Core.Path.{_≡_, refl, sym, _∙_, ap, subst}
-use mathlib.Core.List.{List, [], _∷_}
-use Prim.Native.Nat.{ℕ, zero, suc, _≤_}
+use mathlib.Core.Path.{_≡_, refl, sym, subst}
+use mathlib.Core.List.{List, _∷_}
+use Prim.Native.Nat.{ℕ, suc, _≤_}
 use native.Mathlib.Decide.{decLe}
 use native.Mathlib.Omega.{arith}
 use lib.ListN.{length, replicate, length-replicate}
@@ -21,24 +20,10 @@ use Rattle.record.specs.Divisor.{of-kind}
 use Rattle.record.proofs.Accepted.{ideal-reads}
 use Rattle.calls.specs.Class.{Ring, Ideal}
 use Rattle.calls.proofs.Class.{Accepted}
-use Rattle.point.specs.Point.{Pair, OnCurve, Point, point-record, PointPower, times, AllPoints, IsPoints}
+use Rattle.point.specs.Point.{Pair, OnCurve, Point, point-record, PointPower, times, AllPoints, Rising, IsPoints}
 use Rattle.point.proofs.Records.{basis-point, point-ideal}
-use Rattle.point.proofs.Times.{same-pair, times-none, times-here, times-other, times-replicate, times-replicate-other, times-less, times-first, points-replicate}
+use Rattle.point.proofs.Times.{same-pair, times-here, times-other, times-replicate, times-replicate-other, points-replicate}
 use Rattle.point.proofs.Degree.{points-bound, points-three}
-use Rattle.point.proofs.Determined.{SameTimes}
-
-pub copies : (q : Pair) (ps : List Pair) (n : ℕ) → SameTimes ps (replicate n q) → ps ≡ replicate n q
-copies q [] zero e = refl
-copies q [] (suc n) e = absurd (times-first q (replicate n q) (sym (times-none q) ∙ e q))
-copies q (r ∷ ps) n e = go (same-pair r q) n e (copies q ps)
-  where
-    go : Dec (r ≡ q) → (n : ℕ) → SameTimes (r ∷ ps) (replicate n q) → ((m : ℕ) → SameTimes ps (replicate m q) → ps ≡ replicate m q)
-        → r ∷ ps ≡ replicate n q
-    go (no d) n e next = absurd (times-first r ps (sym (times-replicate-other r q n d) ∙ sym (e r)))
-    go (yes h) zero e next = absurd (times-first r ps (sym (times-none r) ∙ sym (e r)))
-    go (yes h) (suc n) e next =
-        let rest = next n (λ s. times-less s q ps (replicate n q) (ap (λ (t : Pair). times s (t ∷ ps)) (sym h) ∙ e s)) in
-        λ i. h i ∷ rest i
 
 abbrev pub Within : (c d : List ℕ) → Pair → ℕ → Type 0
 Within c d q k = Inside (Ring c) (Ideal c d) (PointPower c q k)
@@ -67,7 +52,7 @@ module _ (c : List ℕ) (A : AcceptedCurve c) where
 
   module _ (d : List ℕ) (a : Accepted c d) where
     module _ (κ : Kind) (e : of-kind d κ) (ps : List Pair) (hs : AllPoints c ps) (long : length ps ≡ length (remaining (equation c) κ))
-        (inside : (q : Pair) → Point c q → Within c d q (times q ps)) where
+        (inside : (q : Pair) → Point c q → Within c d q (times q ps)) (rising : Rising ps) where
       no-more : (q : Pair) → Point c q → ¬ Within c d q (suc (times q ps))
       no-more q g w = omega (arith, long, points-bound c A d a κ e (q ∷ ps) (g, hs) (λ r h. go r h (same-pair r q)))
         where
@@ -76,7 +61,8 @@ module _ (c : List ℕ) (A : AcceptedCurve c) where
           go r h (no o) = subst (Within c d r) (sym (times-other r q ps o)) (inside r h)
 
       pub full-points : IsPoints c d ps
-      full-points = record { points = hs; often = λ q g. record { inside = inside q g; largest = λ j w. go q g j w (decLe j (times q ps)) } }
+      full-points =
+          record { points = hs; often = λ q g. record { inside = inside q g; largest = λ j w. go q g j w (decLe j (times q ps)) }; rising = rising }
         where
           go : (q : Pair) → Point c q → (j : ℕ) → Within c d q j → Dec (j ≤ times q ps) → j ≤ times q ps
           go q g j w (yes l) = l

@@ -1,22 +1,16 @@
--- The contracts of the calls on points fix the answer, but for the order of the pairs that points_of writes.
+-- The contracts of the calls on points fix the answer.
 --   multiplicity-one           a point has one multiplicity
---   SameTimes ps qs            every pair stands equally often in ps and in qs
 --   point-dec                  it is decidable whether a pair is a point
 --   points-same                two lists of the points of a divisor have every pair equally often
---   Removed q qs, removed      qs with one q taken out, for a pair q that stands in qs
---   times-length               lists that have every pair equally often are of the same length
---   points-length              … so are two lists of the points of a divisor
+--   points-one                 … and are the same, since both rise
 --   pairs-sound, points-stages-sound   what the calls check refuses nothing that it passes, and with one number only
 --   passed-points              pairs that pass their checks are points
 --   points-accepted            the records of points are accepted
 --   points-sum-determined      points_sum: what is returned and what the buffer then holds
---   BothPoints c d out r out′ out″     two answers of points_of, r returned, out′ and out″ left: both refused for one cause, with the
---                              slice as it was; or both written, with lists of the divisor's points that have every pair equally often
---   points-of-determined       points_of: what is returned, and what the slice then holds but for the order of the pairs
--- times-length is by induction on ps: its first pair stands in qs; taken out of both, it leaves lists that have every pair equally often.
+--   points-of-determined       points_of: what is returned and what the slice then holds
 -- points-same: at a point both numbers are its multiplicity, and a pair that is no point stands in neither list.
 -- The calls: what they check gives one cause (crate record, proofs/Cause), and a list sum is one record (crate calls, list-one).
-use mathlib.Core.Path.{_≡_, refl, sym, _∙_, ap}
+use mathlib.Core.Path.{_≡_, sym, _∙_, ap}
 use mathlib.Core.List.{List, [], _∷_, _++_, map}
 use Prim.Native.Nat.{ℕ, suc, _*_, _<_}
 use native.Mathlib.Decide.{decLe}
@@ -24,7 +18,7 @@ use native.Mathlib.Omega.{arith}
 use lib.ListN.{length, drop}
 use lib.IntN.{ℤ, pos}
 use Rattle.field.proofs.Element.{Z-discrete}
-use Rattle.record.specs.Cause.{Stage, must, FirstCause, Passes}
+use Rattle.record.specs.Cause.{Stage, must, Passes}
 use Rattle.record.specs.Curve.{modulus, curve-stages, AcceptedCurve}
 use Rattle.record.proofs.Cause.{AllSound, sound-must, passes-refuses, one-cause, passes-append}
 use Rattle.record.proofs.Lists.{curve-sound}
@@ -36,14 +30,12 @@ use Rattle.calls.proofs.Multiples.{list-one}
 use Rattle.calls.proofs.Answers.{sound-append, divisor-stages-sound, writes-one}
 use Rattle.point.specs.Point.{Pair, OnCurve, Point, point-record, IsMultiplicity, times, AllPoints, IsPoints}
 use Rattle.point.specs.PointCall.{pairs, coordinates, numbers-stage, pairs-stages, PointsSum, points-room, points-stages, PointsOf, refused, written}
-use Rattle.point.proofs.Times.{same-pair, times-none, times-other, times-less, times-first, times-off}
+use Rattle.point.proofs.Times.{SameTimes, times-off}
+use Rattle.point.proofs.Order.{rising-one}
 use Rattle.point.proofs.Records.{point-accepted}
 
 pub multiplicity-one : (c d : List ℕ) (q : Pair) (k j : ℕ) → IsMultiplicity c d q k → IsMultiplicity c d q j → k ≡ j
 multiplicity-one c d q k j h h′ = omega (arith, h .largest j (h′ .inside), h′ .largest k (h .inside))
-
-abbrev pub SameTimes : List Pair → List Pair → Type 0
-SameTimes ps qs = (q : Pair) → times q ps ≡ times q qs
 
 pub point-dec : (c : List ℕ) (q : Pair) → Dec (Point c q)
 point-dec c (a, b) = go (decLe (suc a) (modulus c)) (decLe (suc b) (modulus c)) (Z-discrete (modulus c) _ _)
@@ -61,43 +53,8 @@ points-same c d ps qs h h′ q = go (point-dec c q)
     go (yes g) = multiplicity-one c d q (times q ps) (times q qs) (h .often q g) (h′ .often q g)
     go (no n) = times-off c q ps n (h .points) ∙ sym (times-off c q qs n (h′ .points))
 
--- One pair more at the start of two lists, and two pairs in either order.
-times-more : (s r : Pair) (ps qs : List Pair) → times s ps ≡ times s qs → times s (r ∷ ps) ≡ times s (r ∷ qs)
-times-more (a, b) (a′, b′) ps qs e = omega (arith, e)
-
-times-swap : (s q r : Pair) (ps : List Pair) → times s (r ∷ q ∷ ps) ≡ times s (q ∷ r ∷ ps)
-times-swap (a, b) (a′, b′) (a″, b″) ps = omega arith
-
-pub record Removed (q : Pair) (qs : List Pair) : Type 0 where
-  pub rest : List Pair
-  pub long : length qs ≡ suc (length rest)
-  pub same : SameTimes qs (q ∷ rest)
-
-pub removed : (q : Pair) (qs : List Pair) → ¬ (times q qs ≡ 0) → Removed q qs
-removed q [] n = absurd (n (times-none q))
-removed q (r ∷ qs) n = go (same-pair q r) (removed q qs)
-  where
-    go : Dec (q ≡ r) → (¬ (times q qs ≡ 0) → Removed q qs) → Removed q (r ∷ qs)
-    go (yes e) next = record { rest = qs; long = refl; same = λ s. ap (λ (t : Pair). times s (t ∷ qs)) (sym e) }
-    go (no d) next = more (next (λ e. n (times-other q r qs d ∙ e)))
-      where
-        more : Removed q qs → Removed q (r ∷ qs)
-        more h = record {
-          rest = r ∷ h .rest;
-          long = ap suc (h .long);
-          same = λ s. times-more s r qs (q ∷ h .rest) (h .same s) ∙ times-swap s q r (h .rest);
-        }
-
-pub times-length : (ps qs : List Pair) → SameTimes ps qs → length ps ≡ length qs
-times-length [] [] e = refl
-times-length [] (q ∷ qs) e = absurd (times-first q qs (sym (times-none q) ∙ e q))
-times-length (p ∷ ps) qs e = go (removed p qs (λ z. times-first p ps (sym z ∙ sym (e p)))) (times-length ps)
-  where
-    go : Removed p qs → ((rs : List Pair) → SameTimes ps rs → length ps ≡ length rs) → suc (length ps) ≡ length qs
-    go h next = ap suc (next (h .rest) (λ s. times-less s p ps (h .rest) (e s ∙ h .same s))) ∙ sym (h .long)
-
-pub points-length : (c d : List ℕ) (ps qs : List Pair) → IsPoints c d ps → IsPoints c d qs → length ps ≡ length qs
-points-length c d ps qs h h′ = times-length ps qs (points-same c d ps qs h h′)
+pub points-one : (c d : List ℕ) (ps qs : List Pair) → IsPoints c d ps → IsPoints c d qs → ps ≡ qs
+points-one c d ps qs h h′ = rising-one ps qs (h .rising) (h′ .rising) (points-same c d ps qs h h′)
 
 module _ (c : List ℕ) where
   pub pairs-sound : (qs : List Pair) → AllSound (pairs-stages c qs)
@@ -133,25 +90,18 @@ points-stages-sound c d out =
     sound-append (curve-stages c) (must 14 _ ∷ divisor-of c d ++ buffer points-room out) (curve-sound c)
     (sound-must _ _, sound-append (divisor-of c d) (buffer points-room out) (divisor-stages-sound c d) (sound-must _ _, tt))
 
--- "every order has the same pairs, each as often as its multiplicity"
-pub data BothPoints (c d out : List ℕ) (r : ℤ) (out′ out″ : List ℕ) : Type 0 where
-  both-refused : (n : ℕ) → FirstCause (points-stages c d out) n → r ≡ minus n → out′ ≡ out → out″ ≡ out → BothPoints c d out r out′ out″
-  both-written : (ps qs : List Pair) → IsPoints c d ps → IsPoints c d qs → SameTimes ps qs → length ps ≡ length qs → r ≡ pos (length ps)
-      → out′ ≡ coordinates ps ++ drop (2 * length ps) out → out″ ≡ coordinates qs ++ drop (2 * length ps) out
-      → BothPoints c d out r out′ out″
-
 pub points-of-determined : (c d out : List ℕ) (r s : ℤ) (out′ out″ : List ℕ) → PointsOf c d out r out′ → PointsOf c d out s out″
-    → (r ≡ s) × BothPoints c d out r out′ out″
+    → (r ≡ s) × (out′ ≡ out″)
 points-of-determined c d out r s out′ out″ (refused n f e q) (refused m g e′ q′) = (
   e ∙ ap minus (one-cause (points-stages c d out) (points-stages-sound c d out) n m f g) ∙ sym e′,
-  both-refused n f e q q′,
+  q ∙ sym q′,
 )
 points-of-determined c d out r s out′ out″ (refused n f e q) (written ps p h e′ q′) =
     absurd (passes-refuses (points-stages c d out) (points-stages-sound c d out) p n f)
 points-of-determined c d out r s out′ out″ (written ps p h e q) (refused n f e′ q′) =
     absurd (passes-refuses (points-stages c d out) (points-stages-sound c d out) p n f)
 points-of-determined c d out r s out′ out″ (written ps p h e q) (written qs p′ h′ e′ q′) =
-    let same : length ps ≡ length qs = points-length c d ps qs h h′ in (
-      e ∙ ap pos same ∙ sym e′,
-      both-written ps qs h h′ (points-same c d ps qs h h′) same e q (q′ ∙ ap (λ (n : ℕ). coordinates qs ++ drop (2 * n) out) (sym same)),
+    let same : ps ≡ qs = points-one c d ps qs h h′ in (
+      e ∙ ap (λ (ts : List Pair). pos (length ts)) same ∙ sym e′,
+      q ∙ ap (λ (ts : List Pair). coordinates ts ++ drop (2 * length ts) out) same ∙ sym q′,
     )

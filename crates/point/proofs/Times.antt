@@ -5,6 +5,8 @@
 --   times-replicate, times-replicate-other     in k copies of a pair
 --   times-less                 two lists with the same first pair, without it
 --   times-first                the first pair of a list stands in it
+--   SameTimes ps qs            every pair stands equally often in ps and in qs
+--   every-times, times-every   what holds of each pair of a list holds of a pair that stands in it, and back
 --   points-append, points-replicate        lists of points one after the other, k copies of a point
 --   points-every               each pair of a list of points is a point
 --   times-off                  a pair that is no point does not stand in a list of points
@@ -77,6 +79,25 @@ times-less (a, b) (a′, b′) ps qs e = omega (arith, e)
 
 pub times-first : (q : Pair) (ps : List Pair) → ¬ (0 ≡ times q (q ∷ ps))
 times-first q ps e = omega (arith, e ∙ times-here q ps)
+
+abbrev pub SameTimes : List Pair → List Pair → Type 0
+SameTimes ps qs = (q : Pair) → times q ps ≡ times q qs
+
+pub every-times : (X : Pair → Type 0) (r : Pair) (ps : List Pair) → Every X ps → ¬ (times r ps ≡ 0) → X r
+every-times X r [] _ n = absurd (n (times-none r))
+every-times X r (q ∷ ps) (h, hs) n = go (same-pair r q) (every-times X r ps hs)
+  where
+    go : Dec (r ≡ q) → (¬ (times r ps ≡ 0) → X r) → X r
+    go (yes e) next = subst X (sym e) h
+    go (no d) next = next (λ z. n (times-other r q ps d ∙ z))
+
+-- what does not stand in a list does not stand in it without its first pair
+times-rest : (r q : Pair) (ps : List Pair) → times r (q ∷ ps) ≡ 0 → times r ps ≡ 0
+times-rest (a, b) (a′, b′) ps e = omega (arith, e)
+
+pub times-every : (X : Pair → Type 0) (ps : List Pair) → ((r : Pair) → ¬ (times r ps ≡ 0) → X r) → Every X ps
+times-every X [] f = tt
+times-every X (q ∷ ps) f = (f q (λ e. times-first q ps (sym e)), times-every X ps (λ r n. f r (λ e. n (times-rest r q ps e))))
 
 module _ (c : List ℕ) where
   pub points-append : (ps qs : List Pair) → AllPoints c ps → AllPoints c qs → AllPoints c (ps ++ qs)

@@ -1,4 +1,5 @@
--- Document 02, 2026-02, "From points to a class and back": the points of a curve and of a divisor. c is the curve's bytes, d a divisor's.
+-- Document 02, 2026-02, "From points to a class and back", and 2026-06, "Points in a fixed order": the points of a curve and of a divisor.
+-- c is the curve's bytes, d a divisor's.
 --   Pair                       a pair of coordinates
 --   InField c q                both coordinates are in the field: below p
 --   OnCurve c q                the pair is on the curve: F is 0 there
@@ -8,10 +9,13 @@
 --   IsMultiplicity c d q k     k is the multiplicity of the point q
 --   times q ps                 how often the pair q stands in the list ps
 --   AllPoints c ps             each pair of ps is a point
---   IsPoints c d ps            ps are the points of the divisor d, each as often as its multiplicity, in some order
+--   Rises q r                  r may follow q: its first coordinate is greater; or it is the same, and the second is not less
+--   Rising ps                  each pair of ps may follow the one before it
+--   IsPoints c d ps            ps are the points of the divisor d, each as often as its multiplicity, in rising order
 use mathlib.Core.Path.{_≡_}
 use mathlib.Core.Bool.{_&&_}
-use mathlib.Core.List.{List, [], _∷_}
+use mathlib.Core.Logic.{_⊎_}
+use mathlib.Core.List.{List, [], _∷_, IsChain}
 use Prim.Native.Nat.{ℕ, _+_, _<_, _≤_}
 use lib.Dec.{eqb}
 use Rattle.algebra.specs.Ring.{CommRing}
@@ -61,8 +65,16 @@ abbrev pub AllPoints : (c : List ℕ) → List Pair → Type 0
 AllPoints c [] = Unit
 AllPoints c (q ∷ qs) = Point c q × AllPoints c qs
 
--- "every point of a divisor record that has both coordinates in the field", "and the pair is written that many times"; "every order has
--- the same pairs, each as often as its multiplicity".
+-- "with rising first coordinate, then rising second"
+abbrev pub Rises : Pair → Pair → Type 0
+Rises (a, b) (a′, b′) = (a < a′) ⊎ ((a ≡ a′) × (b ≤ b′))
+
+-- 2026-06: "The points of a divisor come with rising first coordinate, then rising second; repeats stand together."
+abbrev pub Rising : List Pair → Type 0
+Rising ps = IsChain Rises ps
+
+-- "every point of a divisor record that has both coordinates in the field", "and the pair is written that many times"
 pub record IsPoints (c d : List ℕ) (ps : List Pair) : Type 0 where
   pub points : AllPoints c ps
   pub often : (q : Pair) → Point c q → IsMultiplicity c d q (times q ps)
+  pub rising : Rising ps

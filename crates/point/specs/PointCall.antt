@@ -62,7 +62,7 @@ points-room = 6
 abbrev pub points-stages : (c d out : List ℕ) → List Stage
 points-stages c d out = curve-stages c ++ must 14 (modulus c ≤ scan-limit) ∷ divisor-of c d ++ buffer points-room out
 
--- "It returns the number of pairs, and numbers after them are untouched." "The order is the program's choice for now".
+-- "It returns the number of pairs, and numbers after them are untouched."
 pub data PointsOf (c d out : List ℕ) (r : ℤ) (out′ : List ℕ) : Type 0 where
   refused : (n : ℕ) → FirstCause (points-stages c d out) n → r ≡ minus n → out′ ≡ out → PointsOf c d out r out′
   written : (ps : List Pair) → Passes (points-stages c d out) → IsPoints c d ps → r ≡ pos (length ps)
