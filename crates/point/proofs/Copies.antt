@@ -1,6 +1,7 @@
 -- Copies of a point, and lists of as many points as the degree.
 --   Within c d q k     the ideal of d lies inside the k-th power of the ideal of q
 --   within-copies      a divisor inside the n-th power of q is inside the power times r (n copies of q) of each r
+--   within-listed      a divisor inside the power times q ps of each pair q of ps is so for every pair
 --   most-three         a divisor inside the n-th power of a point: n is at most 3
 --   accepted-point     a pair whose record is accepted is on the curve
 --   full-points        if a divisor lies inside the power times q ps of each point q, and ps rises and is as long as its degree, it has the points ps
@@ -8,9 +9,10 @@
 use mathlib.Core.Path.{_≡_, refl, sym, subst}
 use mathlib.Core.List.{List, _∷_}
 use Prim.Native.Nat.{ℕ, suc, _≤_}
-use native.Mathlib.Decide.{decLe}
+use native.Mathlib.Decide.{decLe, ℕ-discrete}
 use native.Mathlib.Omega.{arith}
 use lib.ListN.{length, replicate, length-replicate}
+use Rattle.ideal.proofs.Every.{Every}
 use Rattle.powers.specs.Power.{Inside}
 use Rattle.powers.proofs.Powers.{power-less}
 use Rattle.divisor.specs.Kind.{Kind, k11, remaining}
@@ -22,7 +24,7 @@ use Rattle.calls.specs.Class.{Ring, Ideal}
 use Rattle.calls.proofs.Class.{Accepted}
 use Rattle.point.specs.Point.{Pair, OnCurve, Point, point-record, PointPower, times, AllPoints, Rising, IsPoints}
 use Rattle.point.proofs.Records.{basis-point, point-ideal}
-use Rattle.point.proofs.Times.{same-pair, times-here, times-other, times-replicate, times-replicate-other, points-replicate}
+use Rattle.point.proofs.Times.{same-pair, times-here, times-other, times-replicate, times-replicate-other, every-times, points-replicate}
 use Rattle.point.proofs.Degree.{points-bound, points-three}
 
 abbrev pub Within : (c d : List ℕ) → Pair → ℕ → Type 0
@@ -34,6 +36,13 @@ within-copies c d q n w r = go (same-pair r q)
     go : Dec (r ≡ q) → Within c d r (times r (replicate n q))
     go (yes e) = subst (λ (t : Pair). Within c d t (times t (replicate n q))) (sym e) (subst (Within c d q) (sym (times-replicate q n)) w)
     go (no o) = subst (Within c d r) (sym (times-replicate-other r q n o)) (λ h m. tt)
+
+pub within-listed : (c d : List ℕ) (ps : List Pair) → Every (λ q. Within c d q (times q ps)) ps → (r : Pair) → Within c d r (times r ps)
+within-listed c d ps hs r = go (ℕ-discrete (times r ps) 0)
+  where
+    go : Dec (times r ps ≡ 0) → Within c d r (times r ps)
+    go (yes e) = subst (Within c d r) (sym e) (λ h m. tt)
+    go (no n) = every-times (λ q. Within c d q (times q ps)) r ps hs n
 
 module _ (c : List ℕ) (A : AcceptedCurve c) where
   point-kind : (q : Pair) → of-kind (point-record c q) k11

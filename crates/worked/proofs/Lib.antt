@@ -13,3 +13,4 @@ pub mod Fractions
 pub mod Points
 pub mod Words
 pub mod Parts
+pub mod Order

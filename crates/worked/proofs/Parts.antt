@@ -1,6 +1,7 @@
 -- Document 02, 2026-04: common part, common multiple and sum of 2P + (1, 2) and P, on E. The first of them is the record larger.
 --   held p n gs hs qss     test: each of gs is a combination of hs, with the factors qss; held-inside: then what gs generate lies inside
 --                          what hs generate
+--   inside-by              the ideal of a record lies inside that of another, by the test of their polynomials
 --   larger-inside          the ideal of larger lies inside that of P
 --   larger-product         … and is the product of the ideals of 2P and (1, 2)
 --   written                the one result of two accepted records on E is what the call writes, and nothing else
@@ -24,10 +25,11 @@ use Rattle.ideal.proofs.Every.{Every}
 use Rattle.ideal.proofs.Generated.{generated-ideal, generated-in}
 use Rattle.powers.specs.Power.{Inside}
 use Rattle.curve.specs.Curve.{Coordinate}
-use Rattle.divisor.specs.Kind.{k11, k21, k31}
+use Rattle.divisor.specs.Kind.{Kind, k11, k21, k31}
 use Rattle.layout.specs.Layout.{number2, number4, bytes2, bytes4, all-bytes4, record-bytes}
 use Rattle.record.specs.Cause.{Stage}
 use Rattle.record.specs.Curve.{modulus, coefficient-number, curve-stages, AcceptedCurve}
+use Rattle.record.specs.Divisor.{of-kind}
 use Rattle.calls.specs.Answer.{Writes}
 use Rattle.calls.specs.Class.{Ring, Record, Ideal, IsSum, IsCommonPart, IsCommonMultiple}
 use Rattle.calls.specs.Call.{divisor-of, room}
@@ -44,8 +46,9 @@ use Rattle.worked.proofs.Accepted.{Known}
 use Rattle.worked.proofs.Link.{Link, products-xy, polynomials-of, ideal-values, product-values}
 use Rattle.worked.proofs.Rows.{means-sound}
 use Rattle.worked.proofs.Certificates.{known-as, linked-by, on-E, point-P, difference}
+use Rattle.worked.proofs.Points.{accepted-E}
 
-abbrev held : ℕ → (ℕ → ℕ) → List norm.E → List norm.E → List (List norm.E) → Bool
+abbrev pub held : ℕ → (ℕ → ℕ) → List norm.E → List norm.E → List (List norm.E) → Bool
 held p n [] hs qss = true
 held p n (g ∷ gs) hs qss = both (agree p n g (combine hs (head [] qss))) (held p n gs hs (tail qss))
 
@@ -65,6 +68,12 @@ module _ (p : ℕ) (n : ℕ → ℕ) where
   held-inside : (gs hs : List norm.E) (qss : List (List norm.E)) → T (held p n gs hs qss)
       → Inside R (Generated R (values p n gs)) (Generated R (values p n hs))
   held-inside gs hs qss t = generated-in R (generated-ideal R (values p n hs)) (values p n gs) (held-each gs hs qss t)
+
+pub inside-by : (c : List ℕ) (κ ν : Kind) (a b : List ℕ) → of-kind a κ → of-kind b ν → (qss : List (List norm.E))
+    → T (held (modulus c) (coefficient-number c) (polynomials-of κ a) (polynomials-of ν b) qss) → Inside (Ring c) (Ideal c a) (Ideal c b)
+inside-by c κ ν a b e e′ qss t h m =
+    ideal-values c ν b e′ h .1
+    (held-inside (modulus c) (coefficient-number c) (polynomials-of κ a) (polynomials-of ν b) qss t h (ideal-values c κ a e h .0 m))
 
 -- how y times each member of larger is made of its members; how x times the product of the ideals of larger and P is y + 1 times that of total
 abbrev known-larger : Known
@@ -90,12 +99,9 @@ join-total =
     ∷ ((x ⊞ num 4) ∷ nil ∷ num 2 ∷ nil ∷ nil ∷ unit ∷ [])
     ∷ [])
 
-total-row : AcceptedCurve E × Record E larger × Record E P × IsSum E larger P total
+pub total-row : AcceptedCurve E × Record E larger × Record E P × IsSum E larger P total
 unfolding number2 number4 bytes2 bytes4 all-bytes4 record-bytes
 total-row = means-sound (sum E larger P total) (on-E, known-larger, point-P, difference, join-total) tt
-
-accepted-E : AcceptedCurve E
-accepted-E = total-row .0
 
 -- what gs generate lies inside what hs generate, on E
 abbrev held-on-E : (gs hs : List norm.E) (qss : List (List norm.E)) → T (held (modulus E) (coefficient-number E) gs hs qss)
@@ -105,11 +111,8 @@ held-on-E = held-inside (modulus E) (coefficient-number E)
 -- the polynomials of larger are x·x + 3·(y + 1), (x + 4)·(y + 1) and (y + 3)·(y + 1)
 larger-inside : Inside (Ring E) (Ideal E larger) (Ideal E P)
 unfolding number2 number4 bytes2 bytes4 all-bytes4 record-bytes
-larger-inside h m =
-    ideal-values E k11 P refl h .1
-    (held-on-E (polynomials-of k31 larger) (polynomials-of k11 P)
-    ((x ∷ num 3 ∷ []) ∷ (nil ∷ (x ⊞ num 4) ∷ []) ∷ (nil ∷ (y ⊞ num 3) ∷ []) ∷ []) tt h
-    (ideal-values E k31 larger refl h .0 m))
+larger-inside =
+    inside-by E k31 k11 larger P refl refl ((x ∷ num 3 ∷ []) ∷ (nil ∷ (x ⊞ num 4) ∷ []) ∷ (nil ∷ (y ⊞ num 3) ∷ []) ∷ []) tt
 
 -- the products of y + 1 and x² with x + 4 and y + 3
 abbrev products : List norm.E

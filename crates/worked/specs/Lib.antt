@@ -4,3 +4,4 @@ pub mod Fractions
 pub mod Points
 pub mod Words
 pub mod Parts
+pub mod Order

@@ -3,8 +3,7 @@
 --   psum E 1,2,2,2 40 = 20 1400150003000000000000000200000002000000
 --   double-point       21: 1 0 0 0, that is y + 1 and x²
 --   double-points      (0, 4) twice
---   Has d ps           ps are the points of the divisor d on E, and points_of then returns their number and writes them; it leaves no
---                      other order, so it is said of pairs that are all the same
+--   Has c d ps         ps are the points of the divisor d on the curve c, and points_of then returns their number and writes them
 --   two-points         21: 3 0 2 2
 --   Adds ps w          w and no other record is the sum of the points ps on E, and points_sum then writes w
 use mathlib.Core.Path.{_≡_}
@@ -25,10 +24,10 @@ double-point = divisor k21 (1 ∷ 0 ∷ 0 ∷ 0 ∷ [])
 abbrev pub double-points : List Pair
 double-points = (0, 4) ∷ (0, 4) ∷ []
 
-abbrev pub Has : (d : List ℕ) → List Pair → Type 0
-Has d ps =
-    IsPoints E d ps
-    × ((out : List ℕ) (r : ℤ) (out′ : List ℕ) → points-room ≤ length out → PointsOf E d out r out′
+abbrev pub Has : (c d : List ℕ) → List Pair → Type 0
+Has c d ps =
+    IsPoints c d ps
+    × ((out : List ℕ) (r : ℤ) (out′ : List ℕ) → points-room ≤ length out → PointsOf c d out r out′
     → (r ≡ pos (length ps)) × (out′ ≡ coordinates ps ++ drop (2 * length ps) out))
 
 abbrev pub two-points : List ℕ
