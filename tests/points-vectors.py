@@ -1,9 +1,10 @@
 """Vectors of the two calls on points, made into the input of the program points_test and the lines that it must print.
 
-    python3 tests/points-vectors.py crates/points_test/vectors-2026-02.txt crates/points_test
+    python3 tests/points-vectors.py crates/points_test/vectors-*.txt crates/points_test
 
-writes the files stdin and stdout of that directory. The head of the vectors says what a line of them is, and the head of
-crates/points_test/src/main.rt what a call in stdin is. The right side of each vector is a line of stdout.
+writes the files stdin and stdout of that directory, from one file of vectors after the other. The head of the vectors
+says what a line of them is, and the head of crates/points_test/src/main.rt what a call in stdin is. The right side of
+each vector is a line of stdout.
 """
 import os
 import struct
@@ -37,11 +38,13 @@ def call(left):
 
 
 def main():
-    if len(sys.argv) != 3:
+    if len(sys.argv) < 3:
         sys.exit(__doc__)
-    vectors, directory = sys.argv[1:]
-    with open(vectors) as file:
-        lines = [line.rstrip("\n") for line in file if line.strip() and not line.startswith("#")]
+    *vectors, directory = sys.argv[1:]
+    lines = []
+    for name in vectors:
+        with open(name) as file:
+            lines += [line.rstrip("\n") for line in file if line.strip() and not line.startswith("#")]
     sides = [line.split(" = ") for line in lines]
     with open(os.path.join(directory, "stdin"), "wb") as file:
         file.write(b"".join(call(left) for left, _ in sides))

@@ -6,7 +6,7 @@
    refusal; against the independent implementation.
    Answers: so many rounds of random sums of points and of points of random records. For small p the points of a record
    are found by trying all pairs, for every p by the zeros of the record's polynomials; their multiplicities by powers of
-   ideals. A sum of at most three points, where no fewer give it, has these points.
+   ideals. They come in rising order. A sum of at most three points, where no fewer give it, has these points.
    Round trips: where a record has as many points as its degree, their sum is the record. */
 #include "pages.h"
 #include "sample.h"
@@ -22,7 +22,7 @@ int32_t bench_points_of(const uint8_t *curve, size_t curve_len, const uint8_t *d
 
 enum { LIMIT = 8192, ROOM = LIMIT + 8, LAST_SCANNED = 65521, REFUSALS = 14 };
 
-static long made[ALL_VERBS], refused[REFUSALS + 1], trips, triples, doubles;
+static long made[ALL_VERBS], refused[REFUSALS + 1], trips, triples, doubles, followed, above;
 
 /* ---- one call ---- */
 
@@ -43,8 +43,7 @@ static int by_coordinates(const void *a, const void *b)
     return p[i] < q[i] ? -1 : p[i] > q[i];
 }
 
-/* Makes the call between guard pages. It returns what it should and leaves what it should in the buffer; pairs may come
-   in any order, and those wanted rise. */
+/* Makes the call between guard pages. It returns what it should and leaves what it should in the buffer; points rise. */
 static void check_at(const struct call *given, enum side side, int32_t expected, const uint8_t *want)
 {
     struct call c = between_pages(given, side);
@@ -52,8 +51,8 @@ static void check_at(const struct call *given, enum side side, int32_t expected,
     if (e != expected)
         printf("returned %d, by the definition %d\n", (int)e, (int)expected);
     require(e == expected, "the returned number is wrong", given);
-    if (c.verb == POINTS_OF && e > 0)
-        qsort(c.out, (size_t)e, 8, by_coordinates);
+    for (int32_t i = 1; c.verb == POINTS_OF && i < e; i++)
+        require(by_coordinates(c.out + 8 * (i - 1), c.out + 8 * i) <= 0, "the points do not rise", given);
     require(memcmp(c.out, want, c.out_len) == 0, "the result is wrong, or something else has changed", given);
     made[c.verb]++;
     if (e < 0)
@@ -421,12 +420,15 @@ static void check_round_trip(const struct sample *s, const struct record *r, con
     trips++;
 }
 
-static void count_repeats(const struct pairs *q)
+/* Lists with a point thrice, twice, twice with another behind it, and with different points of one x. */
+static void count_cases(const struct pairs *q)
 {
     const uint32_t *n = q->n;
     int first = q->count > 1 && memcmp(n, n + 2, 8) == 0, second = q->count > 2 && memcmp(n + 2, n + 4, 8) == 0;
     triples += first && second;
     doubles += first != second;
+    followed += first && q->count > 2 && !second;
+    above += (q->count > 1 && !first && n[0] == n[2]) || (q->count > 2 && !second && n[2] == n[4]);
 }
 
 /* Where all pairs can be tried, the definition decides; it agrees with the common zeros. */
@@ -439,7 +441,7 @@ static void check_record(const struct sample *s, const struct record *r)
     }
     check_pairs(s, r, &q);
     check_round_trip(s, r, &q);
-    count_repeats(&q);
+    count_cases(&q);
 }
 
 /* A sum of one, two or three points, where no fewer give it, has these points. */
@@ -455,7 +457,7 @@ static void check_made(const struct sample *s, unsigned count)
     if (degree(&r) == count) {
         check_pairs(s, &r, &q);
         check_round_trip(s, &r, &q);
-        count_repeats(&q);
+        count_cases(&q);
     }
 }
 
@@ -516,8 +518,9 @@ int main(int argc, char **argv)
     run_answers(LAST_SCANNED, rounds, 8);
     for (int i = 0; i < 2; i++)
         run_answers(large[i], rounds, 4);
-    printf("points: %ld random sums and %ld lists agree, %ld lists with a point twice, %ld thrice; %ld round trips\n",
-           made[POINTS_SUM], made[POINTS_OF], doubles, triples, trips);
-    require(doubles > 0 && triples > 0 && trips > 0, "a case was never met", NULL);
+    printf("points: %ld random sums and %ld lists agree, %ld lists with a point twice, %ld of them with another behind it, "
+           "%ld thrice, %ld with different points of one x; %ld round trips\n",
+           made[POINTS_SUM], made[POINTS_OF], doubles, followed, triples, above, trips);
+    require(doubles > 0 && followed > 0 && triples > 0 && above > 0 && trips > 0, "a case was never met", NULL);
     return 0;
 }

@@ -9,7 +9,7 @@ pub extern "C" fn bench_points_sum(curve: &[u8], points: &[u32], out: &mut [u8])
     points::points_sum(curve, points, out)
 }
 
-// The points of a divisor as pairs of coordinates, each as often as its multiplicity.
+// The points of a divisor as pairs of coordinates in rising order, each as often as its multiplicity.
 #[no_mangle]
 pub extern "C" fn bench_points_of(curve: &[u8], divisor: &[u8], out: &mut [u32]) -> i32
     ensures { λ r. ⌜ PointsOf (now (curve .entry)) (now (divisor .entry)) (now (out .entry)) r (now (out .exit)) ⌝ }

@@ -90,7 +90,8 @@ fn points_on(g: Ground, divisor: &[u8], out: &mut [u32]) -> i32
     }
 }
 
-// The points of a divisor that have both coordinates in the field, as pairs, each as often as its multiplicity; how many pairs there are.
+// The points of a divisor that have both coordinates in the field, as pairs, each as often as its multiplicity: by rising first coordinate, then by
+// rising second. Returns how many pairs there are.
 pub fn points_of(curve: &[u8], divisor: &[u8], out: &mut [u32]) -> i32
     ensures { λ r. ⌜ PointsOf (now (curve .entry)) (now (divisor .entry)) (now (out .entry)) r (now (out .exit)) ⌝ }
 {
