@@ -35,8 +35,9 @@ use Rattle.calls.proofs.Multiples.{list-one, list-single, list-more}
 use Rattle.calls.proofs.Answers.{writes-enough}
 use Rattle.point.specs.Point.{Pair, Point, point-record, PointPower, IsPoints}
 use Rattle.point.specs.PointCall.{coordinates, numbers-stage, pairs-stages, scan-limit, PointsSum, points-room, points-stages, PointsOf, written}
+use Rattle.point.proofs.Times.{points-replicate}
 use Rattle.point.proofs.Order.{rising-replicate}
-use Rattle.point.proofs.Copies.{within-listed, accepted-point, full-points}
+use Rattle.point.proofs.Copies.{within-copies, accepted-point, full-points}
 use Rattle.point.proofs.Determined.{points-sum-determined, points-of-determined}
 use Rattle.worked.specs.Table.{E, P, one-two, divisor, Writes-just}
 use Rattle.worked.specs.Points.{double-point, double-points, Has, two-points, Adds}
@@ -136,8 +137,8 @@ pub double-has : Has E double-point double-points
 unfolding number2 number4 bytes2 bytes4 all-bytes4 record-bytes
 double-has =
     points-written E accepted-E (omega arith) double-point accepted double-points
-    (full-points E accepted-E double-point accepted k21 refl double-points (point-04, (point-04, tt)) refl
-    (λ q h. within-listed E double-point double-points (double-inside, (double-inside, tt)) q) (rising-replicate 2 (0, 4)))
+    (full-points E accepted-E double-point accepted k21 refl double-points (points-replicate E (0, 4) point-04 (length double-points)) refl
+    (λ q h. within-copies E double-point (0, 4) (length double-points) double-inside q) (rising-replicate (length double-points) (0, 4)))
   where
     accepted : Accepted E double-point
     accepted = double-row .2 .accepted .1

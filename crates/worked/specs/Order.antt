@@ -1,4 +1,5 @@
--- Document 02, 2026-06, "Points in a fixed order": two examples, for the definitions. In vectors, with the curves and larger in bytes:
+-- Document 02, 2026-06, "Points in a fixed order": two examples, for the definitions. In the form of
+-- the request's vectors, with the curves and larger in bytes:
 --   points E larger 6 = 3 0,4,0,4,1,2
 --   points G 10001600000000000200000004000000 6 = 2 0,1,0,2
 --   three-points       (0, 4) twice, then (1, 2): the first coordinate rises, the repeat stands beside its like
