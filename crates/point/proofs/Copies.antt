@@ -71,7 +71,11 @@ module _ (c : List ℕ) (A : AcceptedCurve c) where
 
       pub full-points : IsPoints c d ps
       full-points =
-          record { points = hs; often = λ q g. record { inside = inside q g; largest = λ j w. go q g j w (decLe j (times q ps)) }; rising = rising }
+          record {
+            points = hs;
+            often = λ q g. record { inside = inside q g; largest = λ j w. omega (arith, go q g j w (decLe j (times q ps))) };
+            rising = rising;
+          }
         where
           go : (q : Pair) → Point c q → (j : ℕ) → Within c d q j → Dec (j ≤ times q ps) → j ≤ times q ps
           go q g j w (yes l) = l

@@ -1,8 +1,8 @@
--- Document 02, 2026-06, "Points in a fixed order": two examples, for the definitions. In the form of
--- the request's vectors, with the curves and larger in bytes:
+-- Document 02, 2026-06, "Points in a fixed order": two examples, for the definitions. In the form of the request's
+-- vectors, with the curves and larger in bytes:
 --   points E larger 6 = 3 0,4,0,4,1,2
 --   points G 10001600000000000200000004000000 6 = 2 0,1,0,2
---   three-points       (0, 4) twice, then (1, 2): the first coordinate rises, the repeat stands beside its like
+--   three-points       (0, 4) twice, then (1, 2): the first coordinate rises, and the two copies stand together
 --   G                  the curve y³ + x⁴ + 6 for p = 7
 --   above-zero         22: 0 2 4, that is x and y² + 4y + 2
 --   two-above          (0, 1), then (0, 2): the first coordinate is the same, the second rises
