@@ -1,5 +1,5 @@
 -- Lists of pairs in rising order.
---   rises-self, rises-trans    the order of pairs: a pair may follow itself; what may follow r may follow what r may follow
+--   rises-self, rises-trans    the order of pairs: a pair may follow itself; if r may follow q, and s may follow r, then s may follow q
 --   rises-same                 two pairs each of which may follow the other are the same
 --   rising-every, rising-first     each other pair of a rising list may follow its first pair; so may each pair that stands in the list
 --   rising-rest                a rising list without the pairs in front
