@@ -2,7 +2,7 @@
 --   one-of-32, three-of-32    lines of the share at a half
 --   two-of-3, none-of-3, all-typical, empty-list    other lines of the share
 --   kinds-of-the-example, sum-of-the-example, zero-sum, refused-11    the other lines
---   typical-31, not-typical-22    a record of kind 31 is typical, one of kind 22 is not
+--   typical-31, not-typical-31, not-typical-22    a record of kind 31 is typical if f2 is not zero, one of kind 22 is not
 use mathlib.Core.Path.{_≡_, refl}
 use mathlib.Core.Bool.{true, false}
 use mathlib.Core.List.{[], _∷_}
@@ -53,11 +53,18 @@ pub refused-11 : refused-line 11 ≡ ascii "refused 11\n"
 unfolding refused-line count-line decimal decimal-upto
 refused-11 = refl
 
+-- Document 02, 2026-07: "On E, the record of (1, 2) − P counts under 31 and no longer in the share, since its f2 is 0." Its f1 and its last
+-- number are 4.
+pub not-typical-31 : typical (record-bytes 31 (0 ∷ 4 ∷ 0 ∷ 0 ∷ 3 ∷ 0 ∷ 1 ∷ 2 ∷ 4 ∷ [])) ≡ false
+unfolding number2 number4 record-bytes bytes2 bytes4 all-bytes4
+not-typical-31 = refl
+
 -- f2 of the record is 4
 pub typical-31 : typical (record-bytes 31 (4 ∷ 2 ∷ 4 ∷ 0 ∷ 3 ∷ 0 ∷ 3 ∷ 0 ∷ 4 ∷ [])) ≡ true
 unfolding number2 number4 record-bytes bytes2 bytes4 all-bytes4
 typical-31 = refl
 
-pub not-typical-22 : typical (record-bytes 22 (0 ∷ 1 ∷ 0 ∷ [])) ≡ false
+-- the third number of the record is 2
+pub not-typical-22 : typical (record-bytes 22 (1 ∷ 4 ∷ 2 ∷ [])) ≡ false
 unfolding number2 number4 record-bytes bytes2 bytes4 all-bytes4
 not-typical-22 = refl

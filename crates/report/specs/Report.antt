@@ -1,4 +1,4 @@
--- Document 01, "The counting program", with document 02, 2026-05: what it prints, in bytes, for each input.
+-- Document 01, "The counting program", with document 02, 2026-05 and 2026-07: what it prints, in bytes, for each input.
 --   curve-part, list-part    "the first 44 bytes (or all, if fewer) are the curve, the rest a list"
 --   typical r, typicals rs   whether a record is typical; how many of the records are
 --   upward q r b             whether q + r / b is rounded upward, to q + 1
@@ -15,13 +15,13 @@
 --   Report input text        … for the input
 use mathlib.Core.Path.{_≡_}
 use mathlib.Core.List.{List, [], _∷_, _++_}
-use mathlib.Core.Bool.{Bool, _&&_, _||_}
+use mathlib.Core.Bool.{Bool, not, _&&_, _||_}
 use Prim.Native.Nat.{ℕ, zero, suc, _+_, _*_, _-_, _/_, _%_}
 use lib.ListN.{length, take, drop}
 use lib.Dec.{eqb, ltb}
 use Rattle.text.specs.Ascii.{ascii}
 use Rattle.text.specs.Decimal.{decimal, two-digits}
-use Rattle.layout.specs.Layout.{number2, numbers}
+use Rattle.layout.specs.Layout.{number2, number4, numbers}
 use Rattle.record.specs.Cause.{FirstCause, Passes}
 use Rattle.record.specs.Curve.{modulus, equation, curve-stages, curve-size}
 use Rattle.record.specs.Listed.{Listed}
@@ -34,9 +34,9 @@ curve-part input = take curve-size input
 abbrev pub list-part : List ℕ → List ℕ
 list-part input = drop curve-size input
 
--- "A record is typical if its kind is 31."
+-- Document 02, 2026-07: "a kind 31 record is typical exactly where f2, the coefficient of y, isn't zero". f2 is the record's third number.
 abbrev pub typical : List ℕ → Bool
-typical r = eqb (number2 r 2) 31
+typical r = eqb (number2 r 2) 31 && not (eqb (number4 r (4 + 4 * 2)) 0)
 
 abbrev pub typicals : List (List ℕ) → ℕ
 typicals [] = 0

@@ -1,21 +1,24 @@
 -- Tallies of one record more, and their bounds.
 --   tallies-bounded    each tally is at most the number of all records
 --   record-given       an accepted record is that of the divisor by value that was read
---   typical-kind       a record of a kind is typical exactly if the kind is 31
+--   typical-value      a record is typical exactly if the divisor by value has the kind 31, with a third number that is not zero
 --   tallies-more       the tallies of a list and one record more
 use mathlib.Core.Path.{_≡_, refl, sym, ap, ap₂, _∙_}
-use mathlib.Core.Bool.{Bool, true, false}
+use mathlib.Core.Bool.{Bool, true, false, not, _&&_}
 use mathlib.Core.List.{List, [], _∷_, _++_}
-use Prim.Native.Nat.{ℕ, _+_, _≤_}
+use Prim.Native.Nat.{ℕ, _+_, _*_, _≤_}
 use native.Mathlib.Omega.{arith}
 use lib.ListN.{length, length-append}
 use lib.Dec.{eqb}
 use Rattle.field.specs.Residue.{Z}
 use Rattle.curve.specs.Curve.{Curve}
-use Rattle.layout.specs.Layout.{number2}
+use Rattle.divisor.specs.Kind.{Kind, k0, k11, k21, k22, k31, code}
+use Rattle.layout.specs.Layout.{Words, number2, number4}
+use Rattle.basis.specs.Divisor.{numbers-of}
 use Rattle.basis.specs.declared.Divisor.{Divisor}
 use Rattle.reader.specs.Reading.{DivisorGiven}
-use Rattle.record.proofs.Written.{bytes-of-kind}
+use Rattle.record.specs.Value.{bytes-of}
+use Rattle.record.proofs.Written.{bytes-of-kind, bytes-of-number}
 use Rattle.calls.specs.Call.{one-if, tally}
 use Rattle.report.specs.Report.{typical, typicals}
 use Rattle.tallies.specs.declared.Tallies.{Tallies}
@@ -71,8 +74,18 @@ module _ {x : Divisor} {r : List ℕ} (h : HasRecord x r) where
   tally-of kind rs e f =
       ap₂ (λ (i j : ℕ). i + j) e (f .is ∙ ap (λ (i : ℕ). one-if (eqb i kind)) (sym kind-read)) ∙ sym (tally-more kind rs r)
 
-pub typical-kind : (x : Divisor) → TypicalTest x (eqb (x .kind) 31)
-typical-kind x r h = ap (λ (n : ℕ). eqb n 31) (sym (kind-read h))
+-- where the kind is 31, the third number that is read is that of the value; where it is not, the record is not typical
+third-read : (κ : Kind) (x : Divisor) → Words (numbers-of x)
+    → (eqb (code κ) 31 && not (eqb (number4 (bytes-of κ x) (4 + 4 * 2)) 0)) ≡ (eqb (code κ) 31 && not (eqb (x .n2) 0))
+third-read k0 x w = refl
+third-read k11 x w = refl
+third-read k21 x w = refl
+third-read k22 x w = refl
+third-read k31 x w = ap (λ (n : ℕ). not (eqb n 0)) (bytes-of-number k31 x w 2 (omega arith))
+
+pub typical-value : (x : Divisor) (b : Bool) → eqb (x .kind) 31 ≡ b → TypicalTest x (b && not (eqb (x .n2) 0))
+typical-value x b e r h =
+    rw (← e, h .is-kind, ← h .bytes, bytes-of-kind (h .kind) x) (sym (third-read (h .kind) x (h .words)))
 
 module _ (t : Tallies) (x : Divisor) {m0 m11 m21 m22 m31 mt : ℕ} (b : Bool) (typical-is : TypicalTest x b)
     (e0 : OneIf (eqb (x .kind) 0) m0) (e11 : OneIf (eqb (x .kind) 11) m11) (e21 : OneIf (eqb (x .kind) 21) m21)

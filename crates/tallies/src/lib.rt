@@ -31,11 +31,11 @@ pub fn no_records() -> Tallies
     }
 }
 
-// Is the record of this divisor typical?
+// Is the record of this divisor typical? Its third number is f2.
 fn typical(x: Divisor) -> bool
     ensures { λ b. ⌜ TypicalTest x b ⌝ }
 {
-    x.kind == 31
+    x.kind == 31 && x.n2 != 0
 }
 
 // 1 for true, 0 for false.

@@ -14,3 +14,4 @@ pub mod Points
 pub mod Words
 pub mod Parts
 pub mod Order
+pub mod Typical

@@ -5,3 +5,4 @@ pub mod Points
 pub mod Words
 pub mod Parts
 pub mod Order
+pub mod Typical
