@@ -12,7 +12,7 @@
 #include <stdio.h>
 #include <string.h>
 
-enum { MIXED = 12, SMALL = 40 };    /* up to so many records every t and u, every t is tried */
+enum { MIXED = 12, SMALL = 40 };    /* every t and u up to MIXED records, every t with u = 0 up to SMALL */
 enum { ZERO = 4, OF_KIND_31 = 40 }; /* the lengths of the records */
 
 static const struct curve E = {5, {1}};

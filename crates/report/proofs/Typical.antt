@@ -1,7 +1,7 @@
 -- Document 02, 2026-07: f2 is "the coefficient of y", an element of the field. In the polynomials of a record of kind 31 (divisor/Kind) the
 -- coefficient of y of the first is the residue of the third number, so that a record's bytes tell it.
 --   typical-f2    an accepted record is typical exactly if its kind is 31 and this coefficient is not the zero of the field
-use mathlib.Core.Path.{_≡_, sym, ap, _∙_}
+use mathlib.Core.Path.{_≡_, ap, _∙_}
 use mathlib.Core.Logic.{_↔_}
 use mathlib.Core.Bool.{true, not, and-eq-true-iff}
 use mathlib.Core.List.{List}
@@ -9,7 +9,6 @@ use Prim.Native.Nat.{ℕ, _+_, _*_, _<_}
 use native.Mathlib.Omega.{arith}
 use lib.Dec.{eqb}
 use borrow.Author.Tests.{eqb-true, eqb-false, not-true, eq-eqb, ne-eqb}
-use Rattle.algebra.specs.Ring.{CommRing}
 use Rattle.field.specs.Residue.{Z, el}
 use Rattle.field.proofs.Element.{el-zero, el-pos}
 use Rattle.curve.specs.Curve.{Curve}

@@ -2,8 +2,7 @@
 --   lines-of-total       the lines that it prints for this record alone
 --   typical-example      the example holds
 use mathlib.Core.Path.{_≡_, refl, sym}
-use mathlib.Core.List.{List, [], _∷_, _++_}
-use Prim.Native.Nat.{ℕ}
+use mathlib.Core.List.{[], _∷_, _++_}
 use native.Mathlib.Omega.{arith}
 use Rattle.text.specs.Decimal.{decimal, decimal-upto, two-digits}
 use Rattle.layout.specs.Layout.{number2, number4, numbers, bytes2, bytes4, all-bytes4, record-bytes}
