@@ -1,0 +1,1 @@
+// Sums of products modulo p, reduced once by a reciprocal of p.

@@ -1,0 +1,1 @@
+-- Columns of two records of kind 31.

@@ -1,0 +1,1 @@
+-- Expressions of the ring solver as elements of the coordinate ring.

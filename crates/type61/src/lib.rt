@@ -1,0 +1,1 @@
+// Theory only: ideals of type 61 are in proofs/.

@@ -1,0 +1,1 @@
+-- The numbers of the reduced ideal of an ideal of type 61.
