@@ -1,1 +1,133 @@
-// Sums of products modulo p, reduced once by a reciprocal of p.
+// Sums of products modulo p, for every p below 2^32. A sum is a number below p·2^32; products are added to it and taken
+// from it without a division, and it is reduced once, by a reciprocal of p.
+ghost use mathlib.Core.Path.{_≡_};
+ghost use Prim.Native.Nat.{_<_};
+ghost use Rattle.field.specs.Residue.{Z, el};
+ghost use Rattle.field.specs.Contract.{Below₂, Below₃, Is};
+ghost use Rattle.barrett.specs.Contract.{high-half, dot₂, dot₃, cross₂, more₁, less₁, less₂, less₃, Below₄, Below₅, Below₆, Below₇, Sum, Terms};
+
+// the high half of x·k, by the four products of their halves
+pub fn high(x: u64, k: u64) -> u64
+    ensures { λ r. ⌜ r ≡ high-half x k ⌝ }
+{
+    let x0 = x % 4294967296;
+    let x1 = x / 4294967296;
+    let k0 = k % 4294967296;
+    let k1 = k / 4294967296;
+    let m = x1 * k0 + x0 * k0 / 4294967296;
+    let n = x0 * k1 + m % 4294967296;
+    x1 * k1 + m / 4294967296 + n / 4294967296
+}
+
+// x modulo p: q = the high half of x·⌊(2^64 − 1)/p⌋ is the quotient or one less
+pub fn reduce(p: u32, x: u64) -> u32
+    requires { ⌜ 0 < p ⌝ }
+    ensures { λ r. ⌜ Is p r (el p x) ⌝ }
+{
+    let w = p as u64;
+    let q = high(x, 18446744073709551615 / w);
+    let r = x - q * w;
+    if r < w { r as u32 } else { (r - w) as u32 }
+}
+
+// a·b, as a sum
+pub fn product(p: u32, a: u32, b: u32) -> u64
+    requires { ⌜ Below₂ p a b ⌝ }
+    ensures { λ r. ⌜ Sum p r (Z p .mul (el p a) (el p b)) ⌝ }
+{
+    (a as u64) * (b as u64)
+}
+
+// x + a·b, as a sum
+pub fn add_product(p: u32, x: u64, a: u32, b: u32) -> u64
+    requires { ⌜ Terms p x a b ⌝ }
+    ensures { λ r. ⌜ Sum p r (more₁ (Z p) (el p x) (el p a) (el p b)) ⌝ }
+{
+    let m = (a as u64) * (b as u64);
+    let d = (p as u64) * 4294967296 - m;
+    if x < d { x + m } else { x - d }
+}
+
+// x − a·b, as a sum
+pub fn sub_product(p: u32, x: u64, a: u32, b: u32) -> u64
+    requires { ⌜ Terms p x a b ⌝ }
+    ensures { λ r. ⌜ Sum p r (less₁ (Z p) (el p x) (el p a) (el p b)) ⌝ }
+{
+    let m = (a as u64) * (b as u64);
+    if x < m {
+        x + ((p as u64) * 4294967296 - m)
+    } else {
+        x - m
+    }
+}
+
+// a·b
+pub fn mul(p: u32, a: u32, b: u32) -> u32
+    requires { ⌜ Below₂ p a b ⌝ }
+    ensures { λ r. ⌜ Is p r (Z p .mul (el p a) (el p b)) ⌝ }
+{
+    reduce(p, product(p, a, b))
+}
+
+// a·b + c·d
+pub fn dot2(p: u32, a: u32, b: u32, c: u32, d: u32) -> u32
+    requires { ⌜ Below₄ p a b c d ⌝ }
+    ensures { λ r. ⌜ Is p r (dot₂ (Z p) (el p a) (el p b) (el p c) (el p d)) ⌝ }
+{
+    let s = product(p, a, b);
+    reduce(p, add_product(p, s, c, d))
+}
+
+// a·b − c·d
+pub fn cross(p: u32, a: u32, b: u32, c: u32, d: u32) -> u32
+    requires { ⌜ Below₄ p a b c d ⌝ }
+    ensures { λ r. ⌜ Is p r (cross₂ (Z p) (el p a) (el p b) (el p c) (el p d)) ⌝ }
+{
+    let s = product(p, a, b);
+    reduce(p, sub_product(p, s, c, d))
+}
+
+// a·b + c·d + e·f
+pub fn dot3(p: u32, a: u32, b: u32, c: u32, d: u32, e: u32, f: u32) -> u32
+    requires { ⌜ Below₆ p a b c d e f ⌝ }
+    ensures { λ r. ⌜ Is p r (dot₃ (Z p) (el p a) (el p b) (el p c) (el p d) (el p e) (el p f)) ⌝ }
+{
+    let s = product(p, a, b);
+    let t = add_product(p, s, c, d);
+    reduce(p, add_product(p, t, e, f))
+}
+
+// x + a·b
+pub fn more1(p: u32, x: u32, a: u32, b: u32) -> u32
+    requires { ⌜ Below₃ p x a b ⌝ }
+    ensures { λ r. ⌜ Is p r (more₁ (Z p) (el p x) (el p a) (el p b)) ⌝ }
+{
+    reduce(p, add_product(p, x as u64, a, b))
+}
+
+// x − a·b
+pub fn less1(p: u32, x: u32, a: u32, b: u32) -> u32
+    requires { ⌜ Below₃ p x a b ⌝ }
+    ensures { λ r. ⌜ Is p r (less₁ (Z p) (el p x) (el p a) (el p b)) ⌝ }
+{
+    reduce(p, sub_product(p, x as u64, a, b))
+}
+
+// x − (a·b + c·d)
+pub fn less2(p: u32, x: u32, a: u32, b: u32, c: u32, d: u32) -> u32
+    requires { ⌜ Below₅ p x a b c d ⌝ }
+    ensures { λ r. ⌜ Is p r (less₂ (Z p) (el p x) (el p a) (el p b) (el p c) (el p d)) ⌝ }
+{
+    let s = sub_product(p, x as u64, a, b);
+    reduce(p, sub_product(p, s, c, d))
+}
+
+// x − (a·b + c·d + e·f)
+pub fn less3(p: u32, x: u32, a: u32, b: u32, c: u32, d: u32, e: u32, f: u32) -> u32
+    requires { ⌜ Below₇ p x a b c d e f ⌝ }
+    ensures { λ r. ⌜ Is p r (less₃ (Z p) (el p x) (el p a) (el p b) (el p c) (el p d) (el p e) (el p f)) ⌝ }
+{
+    let s = sub_product(p, x as u64, a, b);
+    let t = sub_product(p, s, c, d);
+    reduce(p, sub_product(p, t, e, f))
+}

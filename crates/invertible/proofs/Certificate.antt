@@ -18,7 +18,8 @@ use Rattle.algebra.proofs.Test.{both}
 use Rattle.algebra.proofs.Solve.{_⊞_, _⊠_, ⊟_, combine}
 use Rattle.ideal.proofs.Every.{all}
 use Rattle.divisor.specs.Kind.{Kind}
-use Rattle.invertible.proofs.Formula.{F, derivative, forms}
+use Rattle.formula.proofs.Letters.{F, derivative}
+use Rattle.invertible.proofs.Formula.{forms}
 use Rattle.invertible.proofs.Vanish.{flat}
 
 pub record Relation : Type 0 where

@@ -6,3 +6,4 @@ pub mod Certificate
 pub mod Relations
 pub mod Sound
 pub mod Record
+pub mod Adjugate

@@ -17,7 +17,9 @@ use Rattle.ideal.proofs.Generated.{generated-ideal, generated-each, generated-i
 use Rattle.ideal.proofs.Invertible.{multiple-ideal}
 use Rattle.curve.specs.Curve.{Curve, Coordinate}
 use Rattle.divisor.specs.Kind.{Kind, polynomials, IdealOf, IsBasis}
-use Rattle.invertible.proofs.Formula.{F, derivative, forms}
+use Rattle.formula.proofs.Letters.{F, derivative}
+use Rattle.formula.proofs.Value.{at-same}
+use Rattle.invertible.proofs.Formula.{forms}
 use Rattle.invertible.proofs.Value as value
 use Rattle.invertible.proofs.Vanish.{flat, vanish}
 use Rattle.invertible.proofs.Certificate.{Relation, Quotient, Member, Certificate, form, multiple, total, divides, combination, totals, zeros, member-test, row-test, valid}
@@ -93,7 +95,7 @@ module _ {k : CommRing} (C : Curve k) (n : ℕ → k .Car) (κ : Kind) (K : Cert
       let others = divides (form κ 0) (zeros κ K) w gs qs in (
         (
           at (q .quotient),
-          value.at-same C n (g ⊠ w) (form κ 0 ⊠ q .quotient ⊞ combine (zeros κ K) (q .rest)) (both-left test others u)
+          at-same C (value.nine n) (g ⊠ w) (form κ 0 ⊠ q .quotient ⊞ combine (zeros κ K) (q .rest)) (both-left test others u)
               ∙ ap (λ z. f ⊗ at (q .quotient) ⊕ z) (combine-zero (zeros κ K) (q .rest) zeros-vanish) ∙ R .add-zero _,
         ),
         divides-each w gs qs (both-right test others u),
@@ -116,7 +118,7 @@ module _ {k : CommRing} (C : Curve k) (n : ℕ → k .Car) (κ : Kind) (K : Cert
 
   row-in : (v : ℕ) → T (row-test κ K v) → Every (λ r. at (derivative v (total κ r)) ≡ 𝟎) (K .relations) → Product R I J (at (derivative v F) ⊗ f)
   row-in v u zs =
-      subst (Product R I J) (sym (value.at-same C n (derivative v F ⊠ form κ 0) (c ⊞ z) u ∙ ap (λ e. at c ⊕ e) zero ∙ R .add-zero _))
+      subst (Product R I J) (sym (at-same C (value.nine n) (derivative v F ⊠ form κ 0) (c ⊞ z) u ∙ ap (λ e. at c ⊕ e) zero ∙ R .add-zero _))
       (combination-in (K .row v .multiples) (K .members) (every-map member-colon (K .members) (all-every (member-test κ K) (K .members) (both-left (all (member-test κ K) (K .members)) _ t₁))))
     where
       c : E

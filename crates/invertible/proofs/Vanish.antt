@@ -22,8 +22,9 @@ use Rattle.divisor.specs.Kind.{Kind, k31, remaining, IdealOf, MadeOf, IsBasis}
 use Rattle.divisor.proofs.Monomials.{mono-one, mono-x, mono-y}
 use Rattle.divisor.proofs.Terms.{Terms, terms, places, find, coefficient-terms, terms-made}
 use Rattle.divisor.proofs.Table.{kind-by, remaining-poles, remaining-monos}
-use Rattle.invertible.proofs.Formula.{x, y, derivative, origin}
-use Rattle.invertible.proofs.Value.{at, at-same, number-at, origin-at}
+use Rattle.formula.proofs.Letters.{x, y, derivative, origin}
+use Rattle.formula.proofs.Value.{number-at, at-same, origin-at}
+use Rattle.invertible.proofs.Value.{nine, at}
 
 -- what has the coefficient of e at the pole number p for its value at x = y = 0
 abbrev slope : ℕ → E → E
@@ -53,7 +54,7 @@ module _ {k : CommRing} (C : Curve k) (n : ℕ → k .Car) where
   -- the terms of taylor ps e
   abbrev taylor-terms : List ℕ → E → Terms C
   taylor-terms [] e = []
-  taylor-terms (p ∷ ps) e = (number-at C n (slope p e), p) ∷ taylor-terms ps e
+  taylor-terms (p ∷ ps) e = (number-at C (nine n) (slope p e), p) ∷ taylor-terms ps e
 
   taylor-places : (ps : List ℕ) (e : E) → places C (taylor-terms ps e) ≡ ps
   taylor-places [] e = refl
@@ -78,11 +79,11 @@ module _ {k : CommRing} (C : Curve k) (n : ℕ → k .Car) where
   taylor-at : (ps : List ℕ) (e : E) → Every Placed ps → at C n (taylor ps e) ≡ terms C (taylor-terms ps e)
   unfolding Placed
   taylor-at [] e _ = refl
-  taylor-at (p ∷ ps) e (q, qs) = ap₂ _⊕_ (ap₂ _⊗_ (origin-at C n (slope p e)) q) (taylor-at ps e qs)
+  taylor-at (p ∷ ps) e (q, qs) = ap₂ _⊕_ (ap₂ _⊗_ (origin-at C (nine n) (slope p e)) q) (taylor-at ps e qs)
 
   module _ (e : E) where
     at-terms : (κ : Kind) → T (within κ e) → at C n e ≡ terms C (taylor-terms (remaining-poles κ) e)
-    at-terms κ u = at-same C n e (taylor (remaining-poles κ) e) u ∙ taylor-at (remaining-poles κ) e (placed κ)
+    at-terms κ u = at-same C (nine n) e (taylor (remaining-poles κ) e) u ∙ taylor-at (remaining-poles κ) e (placed κ)
 
     at-made : (κ : Kind) → T (within κ e) → MadeOf C (remaining C κ) (at C n e)
     at-made κ u =
@@ -94,8 +95,8 @@ module _ {k : CommRing} (C : Curve k) (n : ℕ → k .Car) where
     low-zero u z m =
         sym (coefficient-terms C (taylor-terms (remaining-poles k31) e) tt m) ∙ ap (coefficient C m) (sym (at-terms k31 u) ∙ z) ∙ coefficient-zero C m
 
-  steady-zero : (d : E) → T (steady d) → number-at C n d ≡ k .zero → at C n d ≡ 𝟎
-  steady-zero d u z = at-same C n d (origin d) u ∙ origin-at C n d ∙ ap (constant C) z ∙ constant-zero C
+  steady-zero : (d : E) → T (steady d) → number-at C (nine n) d ≡ k .zero → at C n d ≡ 𝟎
+  steady-zero d u z = at-same C (nine n) d (origin d) u ∙ origin-at C (nine n) d ∙ ap (constant C) z ∙ constant-zero C
 
   pub vanish : (κ : Kind) (e : E) → T (flat κ e) → IsBasis C κ n → IdealOf C κ n (at C n e)
       → (at C n e ≡ 𝟎) × (at C n (derivative 0 e) ≡ 𝟎) × (at C n (derivative 1 e) ≡ 𝟎)

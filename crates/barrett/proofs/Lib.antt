@@ -1,0 +1,4 @@
+-- Laws that the functions' proofs cite.
+pub mod Halves
+pub mod Quotient
+pub mod Sums

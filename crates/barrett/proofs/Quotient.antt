@@ -1,0 +1,76 @@
+-- The quotient by the reciprocal k = ⌊(2^64 − 1)/p⌋: q = ⌊x·k/2^64⌋ is the quotient of x by p or one less.
+--   reciprocal-low        p·k < 2^64
+--   reciprocal-high       2^64 ≤ p·k + p
+--   quotient-below        q·p ≤ x
+--   rest-below            x − q·p < 2·p
+--   el-turns              el (r + c·p) = el r
+--   rest-small rest-large       what is left is x modulo p, without the correction and with it
+use mathlib.Core.Path.{_≡_, sym, _∙_, ap}
+use Prim.Native.Nat.{ℕ, _+_, _*_, _-_, _/_, _%_, _≤_, _<_}
+use native.Mathlib.Nat.{mul-le-mul, le-of-mul-le-mul-right, lt-of-mul-lt-mul-right, div-add-mod, mod-lt, add-mul-mod-self-right}
+use native.Mathlib.Omega.{arith}
+use Rattle.field.specs.Residue.{Z, el}
+use Rattle.field.specs.Contract.{Is}
+use Rattle.field.proofs.Element.{el-same}
+use Rattle.barrett.specs.Contract.{high-half}
+
+-- with n for 2^64, and s for what the high half leaves
+module _ (n p x k q s : ℕ) (high : q * n + s ≡ x * k) where
+  balance : q * p * n + s * p ≡ x * (p * k)
+  balance = omega (arith, ap (λ (m : ℕ). m * p) high)
+
+  below : p * k < n → q * p ≤ x
+  below h =
+      le-of-mul-le-mul-right {k = n}
+      (omega (arith, balance, mul-le-mul {n₁ = x} {m₁ = p * k} {n₂ = x} {m₂ = n} (omega arith) (omega arith)))
+      (omega arith)
+
+  rest : 0 < p → x < n → s < n → n ≤ p * k + p → x < q * p + 2 * p
+  rest pos hx hs h =
+      lt-of-mul-lt-mul-right n
+      (omega (
+        arith,
+        balance,
+        mul-le-mul {n₁ = x} {m₁ = n} {n₂ = x} {m₂ = p * k + p} (omega arith) h,
+        mul-le-mul {n₁ = s + 1} {m₁ = p} {n₂ = n} {m₂ = p} (omega arith) (omega arith),
+        mul-le-mul {n₁ = x + 1} {m₁ = p} {n₂ = n} {m₂ = p} (omega arith) (omega arith),
+      ))
+
+-- The reciprocal of w serves p if p ≤ w for the one side, and w ≤ p for the other.
+pub reciprocal-low : (p w : ℕ) → 0 < p → p ≤ w → p * (18446744073709551615 / w) < 18446744073709551616
+reciprocal-low p w pos h =
+    omega (
+      arith,
+      div-add-mod 18446744073709551615 w,
+      mul-le-mul {n₁ = p} {m₁ = 18446744073709551615 / w} {n₂ = w} {m₂ = 18446744073709551615 / w} h (omega arith),
+    )
+
+pub reciprocal-high : (p w : ℕ) → 0 < w → w ≤ p → 18446744073709551616 ≤ p * (18446744073709551615 / w) + p
+reciprocal-high p w pos h =
+    omega (
+      arith,
+      div-add-mod 18446744073709551615 w,
+      mod-lt 18446744073709551615 {m = w} pos,
+      mul-le-mul {n₁ = w} {m₁ = 18446744073709551615 / w} {n₂ = p} {m₂ = 18446744073709551615 / w} h (omega arith),
+    )
+
+module _ (p x k q : ℕ) (is : q ≡ high-half x k) where
+  high : q * 18446744073709551616 + x * k % 18446744073709551616 ≡ x * k
+  unfolding high-half
+  high = omega (arith, is)
+
+  pub quotient-below : p * k < 18446744073709551616 → q * p ≤ x
+  quotient-below h = below 18446744073709551616 p x k q _ high h
+
+  pub rest-below : 0 < p → x < 18446744073709551616 → 18446744073709551616 ≤ p * k + p → x < q * p + 2 * p
+  rest-below pos fits h = rest 18446744073709551616 p x k q _ high pos fits (omega arith) h
+
+pub el-turns : (p r c : ℕ) → el p (r + c * p) ≡ el p r
+el-turns p r c = el-same p (r + c * p) r (add-mul-mod-self-right r c p)
+
+module _ (p x q : ℕ) where
+  pub rest-small : q * p ≤ x → x - q * p < p → Is p (x - q * p) (el p x)
+  rest-small l h = record { below = h; is = sym (el-turns p _ q) ∙ ap (el p) (omega arith) }
+
+  pub rest-large : q * p ≤ x → p ≤ x - q * p → x < q * p + 2 * p → Is p (x - q * p - p) (el p x)
+  rest-large l h u = record { below = omega arith; is = sym (el-turns p _ (q + 1)) ∙ ap (el p) (omega arith) }

@@ -1,0 +1,2 @@
+-- Formulas, and what the functions require and ensure.
+pub mod Contract

@@ -1,0 +1,20 @@
+-- `chains::more1_less1` meets its contract: each product is added to the sum before it or taken from it, and the last sum is reduced.
+use borrow.Author.Needs.{needs}
+use Rattle.barrett.proofs.Sums.{reduced, less-after}
+use Rattle.chains.proofs.more1_less1.Statement.{statement}
+use Rattle.chains.proofs.more1_less1.Tie as tie
+
+add-product-requires : tie.Need-add-product-requires
+add-product-requires c κs = search needs
+
+sub-product-requires : tie.Need-sub-product-requires
+sub-product-requires c κs = search needs
+
+reduce-requires : tie.Need-reduce-requires
+reduce-requires c κs = search needs
+
+returns : tie.Need-returns
+returns c = reduced (c .reduce .ensures) (less-after _ _ (c .before .before .add-product .ensures) (c .before .sub-product .ensures))
+
+pub more1-less1-spec : {M : Type 1} → statement M
+more1-less1-spec = tie.close (tie.spec add-product-requires sub-product-requires reduce-requires returns)

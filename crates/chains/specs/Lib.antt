@@ -1,0 +1,2 @@
+-- Sums of products modulo p.
+pub mod Contract

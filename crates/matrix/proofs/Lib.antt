@@ -1,0 +1,3 @@
+-- Why the row-reduced form is one.
+pub mod Cramer
+pub mod Reduced
