@@ -1,6 +1,7 @@
 /* Sum and double of divisors of kind 31 with one inversion. quick.h says what the functions do. A number is below p
-   unless it is said to be below n p; a sum of products stays below 4 p^2, which is below 2^64, before it is reduced. */
+   unless it is said to be below 2 p; a sum of products stays below 4 p^2 + 7 p, which is below 2^64, until it is reduced. */
 #include "quick.h"
+#include <stddef.h>
 
 #define INLINE static inline __attribute__((always_inline))
 typedef uint64_t u64;
@@ -9,94 +10,120 @@ typedef const struct quick_curve *curve;
 
 /* ---- numbers modulo p ---- */
 
-/* MONTGOMERY: a number x is held as x R, R = -2^64, and a product is divided by R.
-   DIVIDED: numbers are plain, but a product is divided by R; a sum of products may have plain terms.
-   RECIPROCAL, REMAINDER: numbers are plain. */
-enum form { MONTGOMERY, DIVIDED, RECIPROCAL, REMAINDER };
+/* How a sum of products is reduced. MONTGOMERY divides it by R = -2^64, so one factor of each product, and each term
+   without a factor, is a number times R: such numbers have names that end in R. For the others R is 1. */
+enum form { MONTGOMERY, RECIPROCAL, REMAINDER };
 
-/* x mod p, or x / R mod p, for any x. With m p = x + 2^64 h, h is below p and x / R modulo p. */
-INLINE u64 reduce(enum form w, curve c, u64 x)
+/* Of two numbers modulo 2^64, one of which may have gone below 0. */
+INLINE u64 lesser(u64 a, u64 b)
 {
-    if (w == MONTGOMERY || w == DIVIDED)
-        return (u64)((u128)(x * c->inverse) * c->p >> 64);
-    if (w == REMAINDER)
-        return x % c->p;
-    u64 r = x - (u64)((u128)x * c->reciprocal >> 64) * c->p;
-    u64 s = r - c->p;
-    return r < c->p ? r : s;
-}
-
-/* A term of a sum of products. */
-INLINE u64 term(enum form w, curve c, u64 x)
-{
-    return w == MONTGOMERY ? x * c->montgomery.one : x;
-}
-
-INLINE u64 into(enum form w, curve c, u64 x)
-{
-    return w == MONTGOMERY ? reduce(w, c, x * c->montgomery.square) : x;
-}
-
-INLINE uint32_t out_of(enum form w, curve c, u64 x)
-{
-    return (uint32_t)(w == MONTGOMERY ? reduce(w, c, x) : x);
+    return a < b ? a : b;
 }
 
 INLINE u64 plus(curve c, u64 a, u64 b)
 {
-    u64 s = a + b, t = s - c->p;
-    return s < c->p ? s : t;
+    return lesser(a + b, a + b - c->p);
 }
 
 INLINE u64 minus(curve c, u64 a, u64 b)
 {
-    u64 d = a - b, e = d + c->p;
-    return a < b ? e : d;
+    return lesser(a - b, a - b + c->p);
+}
+
+/* x / R for any x. In Montgomery's way: with m p = 2^64 h + x, h is below p, and it is -x / 2^64. */
+INLINE u64 reduce(enum form w, curve c, u64 x)
+{
+    if (w == MONTGOMERY)
+        return (u64)((u128)(x * c->inverse) * c->p >> 64);
+    if (w == REMAINDER)
+        return x % c->p;
+    u64 r = x - (u64)((u128)x * c->reciprocal >> 64) * c->p;
+    return lesser(r, r - c->p);
+}
+
+/* x / R + t */
+INLINE u64 reduce_plus(enum form w, curve c, u64 x, u64 t)
+{
+    return w == MONTGOMERY ? plus(c, reduce(w, c, x), t) : reduce(w, c, x + t);
+}
+
+/* The same, below 2 p. */
+INLINE u64 reduce_near(enum form w, curve c, u64 x, u64 t)
+{
+    return w == MONTGOMERY ? reduce(w, c, x) + t : reduce(w, c, x + t);
+}
+
+/* a R */
+INLINE u64 times_R(enum form w, curve c, u64 a)
+{
+    return w == MONTGOMERY ? reduce(w, c, a * c->square) : a;
+}
+
+/* aR / R */
+INLINE u64 over_R(enum form w, curve c, u64 aR)
+{
+    return w == MONTGOMERY ? reduce(w, c, aR) : aR;
 }
 
 /* cy / 2^k, below 2 p: with 2^64 q + l = 2^64 cy / 2^k it is q + l / 2^64, and l / 2^64 is -l / R. */
 INLINE u64 halved(curve c, u64 cy, unsigned k, u64 negative)
 {
-    u64 d = (cy >> k) - reduce(DIVIDED, c, cy << 1 << (63 - k));
+    u64 d = (cy >> k) - reduce(MONTGOMERY, c, cy << 1 << (63 - k));
     return (d ^ negative) - negative + c->p;
 }
 
+/* a if m is -1, b if m is 0, without a jump. */
+#ifdef __clang__
+#define CHOICE(m, a, b) ((m) != 0 ? (a) : (b))
+#else
+#define CHOICE(m, a, b) ((b) ^ (((a) ^ (b)) & (m)))
+#endif
+
 /* An inverse of a != 0, below 2 p. By halving: x and y are odd, a cy = 2^k y and a cx = -2^k x, or both with the other
-   sign, and x cy + y cx = p. clang makes moves of the choices, others get masks. */
+   sign, and x cy + y cx = p. */
 INLINE u64 inverse(curve c, u64 a)
 {
     unsigned k = (unsigned)__builtin_ctzll(a);
-#ifdef __clang__
-    uint32_t x = (uint32_t)c->p, y = (uint32_t)(a >> k), cx = 0, cy = 1, s = 0;
-    while (y != 1) {
-        uint32_t d = x - y, e = y - x, both = cx + cy, less = x < y;
-        unsigned z = (unsigned)__builtin_ctz(d);
-        cy = less ? cx : cy;
-        y = less ? x : y;
-        d = less ? e : d;
-        s ^= less;
-        cx = both;
-        x = d >> z;
-        cy <<= z;
-        k += z;
-    }
-    return halved(c, cy, k, -(u64)s);
-#else
-    u64 x = c->p, y = a >> k, cx = 0, cy = 1, s = 0;
+    u64 x = c->p, y = a >> k, cx = 0, cy = 1, negative = 0;
     while (y != 1) {
         u64 d = x - y, less = (u64)((int64_t)d >> 63), both = cx + cy;
         unsigned z = (unsigned)__builtin_ctzll(d);
-        cy ^= (cx ^ cy) & less;
-        y += d & less;
-        d = (d ^ less) - less;
-        s ^= less;
+        cy = CHOICE(less, cx, cy) << z;
+        y = CHOICE(less, x, y);
+        x = CHOICE(less, -d, d) >> z;
         cx = both;
-        x = d >> z;
-        cy <<= z;
         k += z;
+        negative ^= less;
     }
-    return halved(c, cy, k, s);
-#endif
+    return halved(c, cy, k, negative);
+}
+
+/* ---- divisors ---- */
+
+struct numbers {
+    u64 f0, f1, f2, g0, g1, g2, h0, h1, h2;
+};
+
+INLINE struct numbers numbers_of(const struct nine *a)
+{
+    const uint32_t *n = a->n;
+    return (struct numbers){n[0], n[1], n[2], n[3], n[4], n[5], n[6], n[7], n[8]};
+}
+
+INLINE struct nine nine_of(u64 f0, u64 f1, u64 f2, u64 g0, u64 g1, u64 g2, u64 h0, u64 h1, u64 h2)
+{
+    return (struct nine){{(uint32_t)f0, (uint32_t)f1, (uint32_t)f2, (uint32_t)g0, (uint32_t)g1, (uint32_t)g2,
+                          (uint32_t)h0, (uint32_t)h1, (uint32_t)h2}};
+}
+
+/* The numbers that are needed times R. */
+struct scaled {
+    u64 f1R, f2R, g1R, g2R;
+};
+
+INLINE struct scaled scaled_of(enum form w, curve c, const struct numbers *a)
+{
+    return (struct scaled){times_R(w, c, a->f1), times_R(w, c, a->f2), times_R(w, c, a->g1), times_R(w, c, a->g2)};
 }
 
 /* ---- columns: coefficients of 1, x, y modulo the ideal of a divisor ---- */
@@ -105,27 +132,15 @@ struct column {
     u64 a, b, d;
 };
 
-/* A divisor's numbers. */
-struct numbers {
-    u64 f0, f1, f2, g0, g1, g2, h0, h1, h2;
-};
-
-INLINE struct numbers numbers_of(enum form w, curve c, const struct nine *a)
-{
-    const uint32_t *n = a->n;
-    return (struct numbers){into(w, c, n[0]), into(w, c, n[1]), into(w, c, n[2]), into(w, c, n[3]), into(w, c, n[4]),
-                            into(w, c, n[5]), into(w, c, n[6]), into(w, c, n[7]), into(w, c, n[8])};
-}
-
-/* The column of -x z from that of z. */
+/* The column of -x z / R from that of z. */
 INLINE struct column minus_x(enum form w, curve c, const struct numbers *e, struct column z)
 {
     return (struct column){reduce(w, c, e->f0 * z.b + e->g0 * z.d),
-                           reduce(w, c, e->f1 * z.b + e->g1 * z.d + term(w, c, c->p - z.a)),
+                           reduce(w, c, e->f1 * z.b + e->g1 * z.d + (c->p - z.a)),
                            reduce(w, c, e->f2 * z.b + e->g2 * z.d)};
 }
 
-/* a b - e d */
+/* (a b - e d) / R */
 INLINE u64 minor(enum form w, curve c, u64 a, u64 b, u64 e, u64 d)
 {
     return reduce(w, c, a * b + (c->pp - e * d));
@@ -142,7 +157,7 @@ INLINE u64 dot(enum form w, curve c, struct column s, struct column t)
     return reduce(w, c, s.a * t.a + s.b * t.b + s.d * t.d);
 }
 
-/* The first three columns, and the fourth and fifth times -1. */
+/* The first three columns; the fourth and fifth times -1 / R. */
 struct matrix {
     struct column c1, c2, c3, d, e;
 };
@@ -158,30 +173,25 @@ INLINE struct matrix sum_matrix(enum form w, curve c, const struct numbers *s, c
     return m;
 }
 
-INLINE const struct quick_form *form_of(enum form w, curve c)
-{
-    return w == MONTGOMERY ? &c->montgomery : &c->plain;
-}
-
 /* With R2 = c7 - f2, R1 = -f1, s = f1 - g2, k = R1 - g2, l = R2 - f2. */
-INLINE struct matrix double_matrix(enum form w, curve c, const struct numbers *a)
+INLINE struct matrix double_matrix(enum form w, curve c, const struct numbers *a, const struct scaled *b)
 {
-    const struct quick_form *q = form_of(w, c);
-    u64 pp = c->pp, p = c->p;
-    u64 f0 = a->f0, f1 = a->f1, f2 = a->f2, g0 = a->g0, g1 = a->g1, g2 = a->g2;
-    u64 r2 = minus(c, q->c7, f2), s = minus(c, f1, g2), l = minus(c, r2, f2), k = minus(c, p - f1, g2);
-    u64 t0 = reduce(w, c, (pp - f2 * r2) + term(w, c, p - a->h2));
-    u64 s0 = reduce(w, c, (pp - f1 * l) + term(w, c, minus(c, q->c4, a->h1)));
-    u64 r0 = reduce(w, c, f1 * f1 + term(w, c, minus(c, q->c3, f0)));
+    u64 pp = c->pp, f1R = b->f1R, f2R = b->f2R, g1R = b->g1R, g2R = b->g2R;
+    u64 r2 = minus(c, c->c7, a->f2), l = minus(c, r2, a->f2);
+    u64 lR = w == MONTGOMERY ? minus(c, minus(c, c->c7R, f2R), f2R) : l;
+    u64 sR = minus(c, f1R, g2R), minus_kR = plus(c, f1R, g2R);
+    u64 t0 = reduce_plus(w, c, pp - f2R * r2, c->p - a->h2);
+    u64 s0 = reduce_plus(w, c, pp - f1R * l, minus(c, c->c4, a->h1));
+    u64 r0 = reduce_plus(w, c, f1R * a->f1, minus(c, c->c3, a->f0));
     struct matrix m;
-    m.c1 = (struct column){reduce(w, c, s * t0 + (pp - f2 * s0) + term(w, c, p - g0)), minus(c, t0, g1),
-                           minus(c, s, g2)};
-    m.c2 = (struct column){reduce(w, c, g1 * t0 + f2 * minus(c, r0, f0) + term(w, c, p - a->h0)),
-                           reduce(w, c, (2 * pp - f2 * (f1 + f1)) + term(w, c, p - a->h1)),
-                           reduce(w, c, f2 * l + term(w, c, minus(c, plus(c, t0, g1), a->h2)))};
-    m.c3 = (struct column){reduce(w, c, k * f0 + l * g0 + (pp - s * r0) + (pp - g1 * s0)),
-                           reduce(w, c, plus(c, k, s) * f1 + l * g1 + term(w, c, minus(c, f0, r0))),
-                           reduce(w, c, k * f2 + l * g2 + (pp - s * r2) + term(w, c, p - s0))};
+    m.c1 = (struct column){reduce_plus(w, c, sR * t0 + (pp - f2R * s0), c->p - a->g0), minus(c, t0, a->g1),
+                           minus(c, minus(c, a->f1, a->g2), a->g2)};
+    m.c2 = (struct column){reduce_plus(w, c, g1R * t0 + f2R * minus(c, r0, a->f0), c->p - a->h0),
+                           reduce_plus(w, c, 2 * pp - f2R * (a->f1 + a->f1), c->p - a->h1),
+                           reduce_plus(w, c, f2R * l, minus(c, plus(c, t0, a->g1), a->h2))};
+    m.c3 = (struct column){reduce(w, c, (pp - minus_kR * a->f0) + lR * a->g0 + (pp - sR * r0) + (pp - g1R * s0)),
+                           reduce_plus(w, c, (2 * pp - g2R * (a->f1 + a->f1)) + lR * a->g1, minus(c, a->f0, r0)),
+                           reduce_plus(w, c, (pp - minus_kR * a->f2) + lR * a->g2 + (pp - sR * r2), c->p - s0)};
     m.d = minus_x(w, c, a, m.c1);
     m.e = minus_x(w, c, a, m.c2);
     return m;
@@ -189,141 +199,95 @@ INLINE struct matrix double_matrix(enum form w, curve c, const struct numbers *a
 
 /* ---- after the inversion ---- */
 
-/* The divisor from u = x f + a1 f + b1 g + c1 h, v = x g + a2 f + b2 g + c2 h and t = 1 / F2. */
-INLINE void finish(enum form w, curve c, const struct numbers *s, u64 a1, u64 b1, u64 c1, u64 a2, u64 b2, u64 c2, u64 t,
-                   struct nine *r)
+/* u = x f + a1 f + b1 g + c1 h, v = x g + a2 f + b2 g + c2 h, t = 1 / F2; all seven times R. */
+struct kernel {
+    u64 a1R, b1R, c1R, a2R, b2R, c2R, tR;
+};
+
+INLINE struct nine finish(enum form w, curve c, const struct numbers *s, const struct scaled *b, struct kernel q)
 {
-    const struct quick_form *q = form_of(w, c);
-    u64 p = c->p, pp = c->pp;
-    u64 u5 = c1, u4 = plus(c, s->f2, b1), u3 = plus(c, s->f1, a1);
-    u64 v5 = c2, v4 = plus(c, s->g2, b2), v3 = plus(c, s->g1, a2);
-    u64 u2 = reduce(w, c, a1 * s->f2 + b1 * s->g2 + c1 * s->h2);
-    u64 u1 = reduce(w, c, a1 * s->f1 + b1 * s->g1 + c1 * s->h1 + term(w, c, s->f0));
-    u64 v2 = reduce(w, c, a2 * s->f2 + b2 * s->g2 + c2 * s->h2);
-    u64 v1 = reduce(w, c, a2 * s->f1 + b2 * s->g1 + c2 * s->h1 + term(w, c, s->g0));
-    u64 e = reduce(w, c, u5 * u5 + term(w, c, p - v5)); /* F2 - u4 */
-    u64 F2 = plus(c, e, u4);
-    u64 r0 = reduce(w, c, u5 * (F2 + minus(c, u4, q->c7)) + term(w, c, minus(c, u3, v4)));
-    u64 G1 = reduce(w, c, F2 * e + (2 * pp - u5 * (u3 + r0)) + term(w, c, v3));
-    u64 i = reduce(w, c, u4 * r0 + (pp - u5 * G1) + term(w, c, p - u2));
-    u64 G2 = reduce(w, c, t * i + (pp - u4 * u5) + term(w, c, minus(c, v4, r0)));
-    u64 F1 = plus(c, r0, G2);
-    u64 j = reduce(w, c, F2 * u3 + F1 * u4 + term(w, c, minus(c, u2, q->c4)));
-    u64 k = reduce(w, c, F2 * e + G2 * u5);
-    u64 l = reduce(w, c, G2 * u3 + G1 * u4 + (pp - F2 * v3) + (pp - F1 * v4));
-    u64 F0 = reduce(w, c, u5 * j + (pp - q->c7 * k) + term(w, c, l + minus(c, u1, v2)));
-    u64 m = reduce(w, c, F1 * u3 + term(w, c, minus(c, u1, q->c3)));
-    u64 n = reduce(w, c, F1 * v3 + (pp - G1 * u3) + term(w, c, v1));
-    u64 G0 = reduce(w, c, (2 * pp - u5 * (F0 + m)) + term(w, c, n));
-    u64 tG1 = reduce(w, c, t * G1), tr0 = reduce(w, c, t * r0), g12 = reduce(w, c, G1 * G2);
-    u64 H0 = reduce(w, c, F0 * tG1 + (pp - G0 * tr0));
-    u64 H1 = reduce(w, c, t * minus(c, g12, G0));
-    u64 H2 = reduce(w, c, t * F0 + (pp - G2 * tr0) + term(w, c, G1));
-    *r = (struct nine){{out_of(w, c, F0), out_of(w, c, F1), out_of(w, c, F2), out_of(w, c, G0), out_of(w, c, G1),
-                        out_of(w, c, G2), out_of(w, c, H0), out_of(w, c, H1), out_of(w, c, H2)}};
+    u64 p = c->p, pp = c->pp, c7R = w == MONTGOMERY ? c->c7R : c->c7;
+    u64 u5R = q.c1R, u4R = plus(c, b->f2R, q.b1R), u3R = plus(c, b->f1R, q.a1R);
+    u64 v5R = q.c2R, v4R = plus(c, b->g2R, q.b2R), v3R = plus(c, b->g1R, q.a2R);
+    u64 u5 = over_R(w, c, u5R), u4 = over_R(w, c, u4R);
+    u64 u2 = reduce(w, c, q.a1R * s->f2 + q.b1R * s->g2 + q.c1R * s->h2);
+    u64 u1 = reduce_plus(w, c, q.a1R * s->f1 + q.b1R * s->g1 + q.c1R * s->h1, s->f0);
+    u64 v2 = reduce(w, c, q.a2R * s->f2 + q.b2R * s->g2 + q.c2R * s->h2);
+    u64 v1 = reduce_plus(w, c, q.a2R * s->f1 + q.b2R * s->g1 + q.c2R * s->h1, s->g0);
+    u64 e = reduce(w, c, u5R * u5 + (p - v5R)), F2 = plus(c, e, u4);
+    u64 eR = w == MONTGOMERY ? minus(c, reduce(w, c, u5R * u5R), v5R) : e;
+    u64 r0 = reduce(w, c, u5R * (F2 + minus(c, u4, c->c7)) + u3R + (p - v4R));
+    u64 G1 = reduce(w, c, F2 * eR + (pp - u5R * r0) + (pp - u5 * u3R) + v3R);
+    u64 i = reduce_near(w, c, u4R * r0 + (pp - u5R * G1), p - u2);
+    u64 F1 = reduce(w, c, q.tR * i + (pp - u4R * u5) + v4R), G2 = minus(c, F1, r0);
+    u64 j = reduce_near(w, c, F2 * u3R + F1 * u4R, minus(c, u2, c->c4));
+    u64 k = reduce(w, c, F2 * eR + G2 * u5R);
+    u64 l = reduce_plus(w, c, G2 * u3R + G1 * u4R + (pp - F2 * v3R) + (pp - F1 * v4R), minus(c, u1, v2));
+    u64 F0 = reduce_plus(w, c, u5R * j + (pp - c7R * k), l);
+    u64 m = reduce_plus(w, c, F1 * u3R, minus(c, u1, c->c3));
+    u64 G0 = reduce_plus(w, c, (2 * pp - u5R * (F0 + m)) + F1 * v3R + (pp - G1 * u3R), v1);
+    u64 tRR = times_R(w, c, q.tR), tG1R = reduce(w, c, tRR * G1), tr0R = reduce(w, c, tRR * r0);
+    u64 H0 = reduce(w, c, F0 * tG1R + (pp - G0 * tr0R)), H1 = reduce(w, c, tG1R * G2 + (pp - q.tR * G0));
+    u64 H2 = reduce_plus(w, c, q.tR * F0 + (pp - G2 * tr0R), G1);
+    return nine_of(F0, F1, F2, G0, G1, G2, H0, H1, H2);
 }
 
-/* ---- the determinant Z, Z^2 F2, and the inversion ---- */
+/* ---- the determinant Z, z0 = Z^2 F2, and the inversion ---- */
 
-INLINE int solve(enum form w, curve c, const struct numbers *s, const struct matrix *m, struct nine *r)
+/* Each number is a power of R times what it stands for: R^-1 in d, e and n1 to n3, R^-2 in z, R^-3 in z3, y and a1 to
+   c2, R^-7 in z0, R^-10 in z1, R^-11 in zzz. Then z0 and zzz are taken times R^3, so that o is R^5 / Z. b may be NULL. */
+INLINE int solve(enum form w, curve c, const struct numbers *s, const struct scaled *b, const struct matrix *m,
+                 struct nine *r)
 {
     struct column n1 = cross(w, c, m->c2, m->c3), n2 = cross(w, c, m->c3, m->c1), n3 = cross(w, c, m->c1, m->c2);
-    u64 z = dot(w, c, m->c1, n1);
-    u64 a1 = dot(w, c, m->d, n1), b1 = dot(w, c, m->d, n2), c1 = dot(w, c, m->d, n3);
-    u64 a2 = dot(w, c, m->e, n1), b2 = dot(w, c, m->e, n2), c2 = dot(w, c, m->e, n3);
-    u64 y = reduce(w, c, z * s->f2 + term(w, c, minus(c, b1, c2)));
-    u64 z0 = reduce(w, c, z * y + c1 * c1);
-    u64 z1 = reduce(w, c, z * z0);
+    u64 z = dot(w, c, m->c1, n1), z3 = over_R(w, c, z);
+    u64 b1 = dot(w, c, m->d, n2), c1 = dot(w, c, m->d, n3), c2 = dot(w, c, m->e, n3);
+    u64 y = reduce_near(w, c, z * s->f2, minus(c, b1, c2));
+    u64 z0 = reduce(w, c, z3 * y + c1 * c1), z1 = reduce(w, c, z * z0);
     if (z1 == 0)
         return 0;
-    u64 zz = reduce(w, c, z * z), zzz = reduce(w, c, zz * z);
+    struct scaled own = b == NULL ? scaled_of(w, c, s) : *b;
+    u64 a1 = dot(w, c, m->d, n1), a2 = dot(w, c, m->e, n1), b2 = dot(w, c, m->e, n2);
+    u64 zzz = reduce(w, c, reduce(w, c, z3 * z3) * z3);
     if (w == MONTGOMERY) {
-        z0 = reduce(w, c, z0 * c->cube);
-        zzz = reduce(w, c, zzz * c->cube);
+        z0 = reduce(w, c, z0 * c->fourth);
+        zzz = reduce(w, c, zzz * c->fourth);
     }
-    u64 i = inverse(c, z1);
-    u64 o = reduce(w, c, z0 * i), t = reduce(w, c, zzz * i);
-    finish(w, c, s, reduce(w, c, o * a1), reduce(w, c, o * b1), reduce(w, c, o * c1), reduce(w, c, o * a2),
-           reduce(w, c, o * b2), reduce(w, c, o * c2), t, r);
-    return 1;
-}
-
-/* The columns and cofactors are of plain numbers, so each is a power of 1 / R times what it stands for: 1 / R in d, e
-   and n, 1 / R^2 in z, 1 / R^3 in a1 to c2 and y, 1 / R^7 in z0, 1 / R^10 in z1, 1 / R^11 in zzz. z0 and zzz are
-   then taken times R^3, so that o is R^5 / Z and t is R / F2. */
-INLINE int solve_mixed(curve c, const struct nine *a, const struct matrix *m, struct nine *r)
-{
-    enum form w = DIVIDED;
-    struct numbers s = numbers_of(MONTGOMERY, c, a);
-    struct column n1 = cross(w, c, m->c2, m->c3), n2 = cross(w, c, m->c3, m->c1), n3 = cross(w, c, m->c1, m->c2);
-    u64 z = dot(w, c, m->c1, n1);
-    u64 a1 = dot(w, c, m->d, n1), b1 = dot(w, c, m->d, n2), c1 = dot(w, c, m->d, n3);
-    u64 a2 = dot(w, c, m->e, n1), b2 = dot(w, c, m->e, n2), c2 = dot(w, c, m->e, n3);
-    u64 z3 = reduce(w, c, z), y = reduce(w, c, z * a->n[2]) + minus(c, b1, c2);
-    u64 z0 = reduce(w, c, z3 * y + c1 * c1);
-    u64 z1 = reduce(w, c, z * z0);
-    if (z1 == 0)
-        return 0;
-    u64 zz = reduce(w, c, z3 * z3), zzz = reduce(w, c, zz * z3);
-    z0 = reduce(w, c, z0 * c->fourth);
-    zzz = reduce(w, c, zzz * c->fourth);
-    u64 i = inverse(c, z1);
-    u64 o = reduce(w, c, z0 * i), t = reduce(w, c, zzz * i);
-    finish(MONTGOMERY, c, &s, reduce(w, c, o * a1), reduce(w, c, o * b1), reduce(w, c, o * c1), reduce(w, c, o * a2),
-           reduce(w, c, o * b2), reduce(w, c, o * c2), t, r);
+    u64 i = inverse(c, z1), o = reduce(w, c, z0 * i);
+    struct kernel q = {reduce(w, c, o * a1), reduce(w, c, o * b1), reduce(w, c, o * c1),  reduce(w, c, o * a2),
+                       reduce(w, c, o * b2), reduce(w, c, o * c2), reduce(w, c, zzz * i)};
+    *r = finish(w, c, s, &own, q);
     return 1;
 }
 
 INLINE int sum_by(enum form w, curve c, const struct nine *a, const struct nine *b, struct nine *r)
 {
-    struct numbers s = numbers_of(w, c, a), t = numbers_of(w, c, b);
+    struct numbers s = numbers_of(a), t = numbers_of(b);
     struct matrix m = sum_matrix(w, c, &s, &t);
-    return solve(w, c, &s, &m, r);
+    return solve(w, c, &s, NULL, &m, r);
 }
 
 INLINE int double_by(enum form w, curve c, const struct nine *a, struct nine *r)
 {
-    struct numbers s = numbers_of(w, c, a);
-    struct matrix m = double_matrix(w, c, &s);
-    return solve(w, c, &s, &m, r);
+    struct numbers s = numbers_of(a);
+    struct scaled b = scaled_of(w, c, &s);
+    struct matrix m = double_matrix(w, c, &s, &b);
+    return solve(w, c, &s, &b, &m, r);
 }
 
-int quick_sum_montgomery(curve c, const struct nine *a, const struct nine *b, struct nine *r)
-{
-    return sum_by(MONTGOMERY, c, a, b, r);
-}
+#define BY(name, form)                                                                              \
+    int quick_sum_##name(curve c, const struct nine *a, const struct nine *b, struct nine *r)       \
+    {                                                                                               \
+        return sum_by(form, c, a, b, r);                                                            \
+    }                                                                                               \
+    int quick_double_##name(curve c, const struct nine *a, struct nine *r)                          \
+    {                                                                                               \
+        return double_by(form, c, a, r);                                                            \
+    }
 
-int quick_sum_reciprocal(curve c, const struct nine *a, const struct nine *b, struct nine *r)
-{
-    return sum_by(RECIPROCAL, c, a, b, r);
-}
-
-int quick_sum_remainder(curve c, const struct nine *a, const struct nine *b, struct nine *r)
-{
-    return sum_by(REMAINDER, c, a, b, r);
-}
-
-int quick_sum_mixed(curve c, const struct nine *a, const struct nine *b, struct nine *r)
-{
-    struct numbers s = numbers_of(DIVIDED, c, a), t = numbers_of(DIVIDED, c, b);
-    struct matrix m = sum_matrix(DIVIDED, c, &s, &t);
-    return solve_mixed(c, a, &m, r);
-}
-
-int quick_double_montgomery(curve c, const struct nine *a, struct nine *r)
-{
-    return double_by(MONTGOMERY, c, a, r);
-}
-
-int quick_double_reciprocal(curve c, const struct nine *a, struct nine *r)
-{
-    return double_by(RECIPROCAL, c, a, r);
-}
-
-int quick_double_remainder(curve c, const struct nine *a, struct nine *r)
-{
-    return double_by(REMAINDER, c, a, r);
-}
+BY(montgomery, MONTGOMERY)
+BY(reciprocal, RECIPROCAL)
+BY(remainder, REMAINDER)
 
 /* ---- document 000, section 6 ---- */
 
@@ -347,7 +311,7 @@ static int order_rows(curve c, u64 m[3][5])
 INLINE int source(curve c, const struct numbers *s, const struct matrix *o, struct nine *r)
 {
     enum form w = REMAINDER;
-    u64 p = c->p, pp = c->pp, c7 = c->plain.c7, c4 = c->plain.c4, c3 = c->plain.c3;
+    u64 p = c->p, pp = c->pp, c7 = c->c7, c4 = c->c4, c3 = c->c3;
     u64 m[3][5] = {{o->c1.a, o->c2.a, o->c3.a, minus(c, 0, o->d.a), minus(c, 0, o->e.a)},
                    {o->c1.b, o->c2.b, o->c3.b, minus(c, 0, o->d.b), minus(c, 0, o->e.b)},
                    {o->c1.d, o->c2.d, o->c3.d, minus(c, 0, o->d.d), minus(c, 0, o->e.d)}};
@@ -396,49 +360,40 @@ INLINE int source(curve c, const struct numbers *s, const struct matrix *o, stru
     u64 G0 = reduce(w, c, (pp - u5 * l) + (pp - G1 * u3) + F1 * v3 + v1);
     u64 H0 = reduce(w, c, t * minor(w, c, F0, G1, G0, r0)), H1 = reduce(w, c, t * reduce(w, c, G1 * G2 + p - G0));
     u64 H2 = reduce(w, c, t * reduce(w, c, pp - G2 * r0 + F0) + G1);
-    *r = (struct nine){{(uint32_t)F0, (uint32_t)F1, (uint32_t)F2, (uint32_t)G0, (uint32_t)G1, (uint32_t)G2, (uint32_t)H0,
-                        (uint32_t)H1, (uint32_t)H2}};
+    *r = nine_of(F0, F1, F2, G0, G1, G2, H0, H1, H2);
     return 1;
 }
 
 int quick_sum_source(curve c, const struct nine *a, const struct nine *b, struct nine *r)
 {
-    struct numbers s = numbers_of(REMAINDER, c, a), t = numbers_of(REMAINDER, c, b);
+    struct numbers s = numbers_of(a), t = numbers_of(b);
     struct matrix m = sum_matrix(REMAINDER, c, &s, &t);
     return source(c, &s, &m, r);
 }
 
 int quick_double_source(curve c, const struct nine *a, struct nine *r)
 {
-    struct numbers s = numbers_of(REMAINDER, c, a);
-    struct matrix m = double_matrix(REMAINDER, c, &s);
+    struct numbers s = numbers_of(a);
+    struct scaled b = scaled_of(REMAINDER, c, &s);
+    struct matrix m = double_matrix(REMAINDER, c, &s, &b);
     return source(c, &s, &m, r);
 }
 
 /* ---- the curve's constants ---- */
 
-static struct quick_form make_form(u64 p, u64 scale, u64 c3, u64 c4, u64 c7)
-{
-    struct quick_form q;
-    q.one = scale;
-    q.square = scale * scale % p;
-    q.c3 = c3 * scale % p;
-    q.c4 = c4 * scale % p;
-    q.c7 = c7 * scale % p;
-    return q;
-}
-
 void quick_prepare(struct quick_curve *c, uint32_t p, uint32_t c3, uint32_t c4, uint32_t c7)
 {
-    u64 r = p - (UINT64_MAX % p + 1) % p; /* -2^64 */
+    u64 R = p - (UINT64_MAX % p + 1) % p;
     c->p = p;
     c->pp = (u64)p * p;
     c->inverse = p;
     for (int i = 0; i < 5; i++)
         c->inverse *= 2 - p * c->inverse;
     c->reciprocal = UINT64_MAX / p;
-    c->plain = make_form(p, 1, c3, c4, c7);
-    c->montgomery = make_form(p, r, c3, c4, c7);
-    c->cube = c->montgomery.square * r % p;
-    c->fourth = c->cube * r % p;
+    c->square = R * R % p;
+    c->fourth = c->square * c->square % p;
+    c->c3 = c3;
+    c->c4 = c4;
+    c->c7 = c7;
+    c->c7R = c7 * R % p;
 }

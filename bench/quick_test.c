@@ -25,7 +25,6 @@ static const struct {
     {"reciprocal", quick_sum_reciprocal, quick_double_reciprocal},
     {"remainder", quick_sum_remainder, quick_double_remainder},
     {"source", quick_sum_source, quick_double_source},
-    {"mixed", quick_sum_mixed, NULL},
 };
 
 enum { VERSIONS = COUNT_OF(version) };

@@ -3,7 +3,8 @@
 use basis::Divisor;
 use matrix::Column;
 ghost use mathlib.Core.Path.{_≡_};
-ghost use Rattle.entries.specs.Contract.{lower-of, ShiftAsked, Shifted, DifferenceAsked, Difference, SumMatrixAsked, SumMatrix, TwinAsked, PartsOf, TwinPartsAsked, FirstTwin, SecondTwin, ThirdTwin, DoubleMatrix};
+ghost use Rattle.barrett.specs.Contract.{Below₆};
+ghost use Rattle.entries.specs.Contract.{lower-of, ShiftAsked, Shifted, Difference, SumMatrixAsked, SumMatrix, PartsAsked, PartsOf, TwinAsked, FirstTwin, SecondTwin, ThirdTwin, DoubleMatrix};
 
 // The coefficients of y³ at the pole numbers 6 to 12: −c3, −c4, −c5, −c6, −c7, −c8 and −a0.
 pub struct Lower {
@@ -32,7 +33,7 @@ pub struct Parts {
 }
 
 // The coefficients that the formulas read, of the vector of y³.
-pub fn lower(cube: &[u32; 26]) -> Lower
+pub fn lower_of(cube: &[u32; 26]) -> Lower
     ensures { λ r. ⌜ r ≡ lower-of (now (cube .entry)) ⌝ }
 {
     Lower {
@@ -57,24 +58,119 @@ fn shifted(p: u32, v: Column, m: Divisor) -> Column
     Column { one, x, y }
 }
 
-// The difference of two columns.
-fn difference(p: u32, a: Column, b: Column) -> Column
-    requires { ⌜ DifferenceAsked p a b ⌝ }
-    ensures { λ r. ⌜ Difference p a b r ⌝ }
+// The column with the entries a − b.
+fn difference(p: u32, a0: u32, a1: u32, a2: u32, b0: u32, b1: u32, b2: u32) -> Column
+    requires { ⌜ Below₆ p a0 a1 a2 b0 b1 b2 ⌝ }
+    ensures { λ r. ⌜ Difference p a0 a1 a2 b0 b1 b2 r ⌝ }
 {
-    let one = field::sub(p, a.one, b.one);
-    let x = field::sub(p, a.x, b.x);
-    let y = field::sub(p, a.y, b.y);
+    let one = field::sub(p, a0, b0);
+    let x = field::sub(p, a1, b1);
+    let y = field::sub(p, a2, b2);
     Column { one, x, y }
 }
 
-// The lower terms of f, as a column.
-fn lower_f(n: Divisor) -> Column
-    ensures { λ r. ⌜ r ≡ record { one = n .n0; x = n .n1; y = n .n2 } ⌝ }
+// What the columns of a double share.
+fn parts_of(p: u32, o: Lower, n: Divisor) -> Parts
+    requires { ⌜ PartsAsked p o n ⌝ }
+    ensures { λ r. ⌜ PartsOf p o n r ⌝ }
 {
-    Column {
-        one: n.n0,
-        x: n.n1,
-        y: n.n2,
+    let a0 = barrett::mul(p, o.n12, n.n0);
+    let a1 = barrett::mul(p, o.n12, n.n1);
+    let a2 = barrett::mul(p, o.n12, n.n2);
+    let r1 = field::sub(p, a1, o.n9);
+    let r2 = field::sub(p, a2, o.n10);
+    let s = field::sub(p, n.n1, n.n5);
+    let t8 = field::add(p, o.n8, n.n8);
+    let t = barrett::more1(p, t8, n.n2, r2);
+    let t7 = field::add(p, o.n7, n.n7);
+    let s0 = chains::more2_less1(p, t7, n.n2, r1, n.n1, r2, o.n11, n.n8);
+    let t6 = field::sub(p, a0, o.n6);
+    let r0 = chains::more1_less1(p, t6, o.n11, n.n7, n.n1, r1);
+    let k = barrett::more1(p, r1, o.n12, n.n5);
+    let l = field::add(p, r2, a2);
+    Parts {
+        a0,
+        a1,
+        a2,
+        r1,
+        r2,
+        s,
+        t,
+        s0,
+        r0,
+        k,
+        l,
     }
+}
+
+// The first of the three polynomials of a double.
+fn first_twin(p: u32, o: Lower, n: Divisor, w: Parts) -> Column
+    requires { ⌜ TwinAsked p o n w ⌝ }
+    ensures { λ r. ⌜ FirstTwin p o n w r ⌝ }
+{
+    let t0 = field::neg(p, n.n3);
+    let one = chains::more2_less1(p, t0, n.n2, w.s0, o.n11, n.n0, w.s, w.t);
+    let t1 = field::add(p, w.t, n.n4);
+    let t2 = field::neg(p, t1);
+    let x = barrett::more1(p, t2, o.n11, n.n5);
+    let t3 = field::sub(p, w.s, n.n5);
+    let y = barrett::more1(p, t3, o.n11, n.n2);
+    Column { one, x, y }
+}
+
+// The second of the three polynomials of a double.
+fn second_twin(p: u32, o: Lower, n: Divisor, w: Parts) -> Column
+    requires { ⌜ TwinAsked p o n w ⌝ }
+    ensures { λ r. ⌜ SecondTwin p o n w r ⌝ }
+{
+    let t0 = field::neg(p, n.n6);
+    let t1 = field::add(p, w.r0, w.a0);
+    let one = chains::more2_less1(p, t0, n.n2, t1, o.n11, n.n3, n.n4, w.t);
+    let t2 = field::neg(p, n.n7);
+    let t3 = field::add(p, w.r1, w.a1);
+    let x = barrett::more1(p, t2, n.n2, t3);
+    let t4 = field::add(p, w.t, n.n8);
+    let t5 = field::sub(p, n.n4, t4);
+    let y = chains::more2(p, t5, n.n2, w.l, o.n11, n.n5);
+    Column { one, x, y }
+}
+
+// The third of the three polynomials of a double.
+fn third_twin(p: u32, o: Lower, n: Divisor, w: Parts) -> Column
+    requires { ⌜ TwinAsked p o n w ⌝ }
+    ensures { λ r. ⌜ ThirdTwin p o n w r ⌝ }
+{
+    let one = chains::more3_less1(p, 0, w.k, n.n0, w.l, n.n3, n.n4, w.s0, w.s, w.r0);
+    let t0 = field::add(p, w.a0, w.r0);
+    let t1 = field::neg(p, t0);
+    let x = chains::more2_less1(p, t1, w.k, n.n1, w.l, n.n4, w.s, w.r1);
+    let y = chains::more2_less1(p, w.s0, w.k, n.n2, w.l, n.n5, w.s, w.r2);
+    Column { one, x, y }
+}
+
+// The matrix of a sum.
+pub fn sum_matrix(p: u32, n: Divisor, m: Divisor) -> [[u32; 5]; 3]
+    requires { ⌜ SumMatrixAsked p n m ⌝ }
+    ensures { λ r. ⌜ SumMatrix p n m r ⌝ }
+{
+    let a = difference(p, n.n0, n.n1, n.n2, m.n0, m.n1, m.n2);
+    let b = difference(p, n.n3, n.n4, n.n5, m.n3, m.n4, m.n5);
+    let c = difference(p, n.n6, n.n7, n.n8, m.n6, m.n7, m.n8);
+    let d = shifted(p, a, m);
+    let e = shifted(p, b, m);
+    matrix::rows(a, b, c, d, e)
+}
+
+// The matrix of a double.
+pub fn double_matrix(p: u32, o: Lower, n: Divisor) -> [[u32; 5]; 3]
+    requires { ⌜ PartsAsked p o n ⌝ }
+    ensures { λ r. ⌜ DoubleMatrix p o n r ⌝ }
+{
+    let w = parts_of(p, o, n);
+    let a = first_twin(p, o, n, w);
+    let b = second_twin(p, o, n, w);
+    let c = third_twin(p, o, n, w);
+    let d = shifted(p, a, n);
+    let e = shifted(p, b, n);
+    matrix::rows(a, b, c, d, e)
 }

@@ -1,0 +1,2 @@
+-- The matrix of two divisors.
+pub mod Contract
