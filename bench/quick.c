@@ -1,5 +1,5 @@
 /* Sum and double of divisors of kind 31 with one inversion. quick.h says what the functions do. A number is below p
-   unless it is said to be below 2 p; a sum of products stays below 4 p^2 + 7 p, which is below 2^64, until it is reduced. */
+   unless it is said to be below 2 p; a sum of products stays below 4 p^2 + 7 p < 2^64 until it is reduced. */
 #include "quick.h"
 #include <stddef.h>
 
@@ -72,11 +72,15 @@ INLINE u64 halved(curve c, u64 cy, unsigned k, u64 negative)
     return (d ^ negative) - negative + c->p;
 }
 
-/* a if m is -1, b if m is 0, without a jump. */
+/* Without jumps: whether x < y as m, a choice by m, and the distance of x and y. */
 #ifdef __clang__
-#define CHOICE(m, a, b) ((m) != 0 ? (a) : (b))
+#define LESS(x, y) ((u64)((x) < (y)))
+#define CHOICE(m, a, b) ((m) ? (a) : (b))
+#define DISTANCE(m, x, y) ((m) ? (y) - (x) : (x) - (y))
 #else
+#define LESS(x, y) ((u64)((int64_t)((x) - (y)) >> 63))
 #define CHOICE(m, a, b) ((b) ^ (((a) ^ (b)) & (m)))
+#define DISTANCE(m, x, y) ((((x) - (y)) ^ (m)) - (m))
 #endif
 
 /* An inverse of a != 0, below 2 p. By halving: x and y are odd, a cy = 2^k y and a cx = -2^k x, or both with the other
@@ -86,16 +90,16 @@ INLINE u64 inverse(curve c, u64 a)
     unsigned k = (unsigned)__builtin_ctzll(a);
     u64 x = c->p, y = a >> k, cx = 0, cy = 1, negative = 0;
     while (y != 1) {
-        u64 d = x - y, less = (u64)((int64_t)d >> 63), both = cx + cy;
-        unsigned z = (unsigned)__builtin_ctzll(d);
+        u64 less = LESS(x, y), distance = DISTANCE(less, x, y), both = cx + cy;
+        unsigned z = (unsigned)__builtin_ctzll(x - y);
         cy = CHOICE(less, cx, cy) << z;
         y = CHOICE(less, x, y);
-        x = CHOICE(less, -d, d) >> z;
+        x = distance >> z;
         cx = both;
         k += z;
         negative ^= less;
     }
-    return halved(c, cy, k, negative);
+    return halved(c, cy, k, -(negative & 1));
 }
 
 /* ---- divisors ---- */
@@ -235,7 +239,8 @@ INLINE struct nine finish(enum form w, curve c, const struct numbers *s, const s
 /* ---- the determinant Z, z0 = Z^2 F2, and the inversion ---- */
 
 /* Each number is a power of R times what it stands for: R^-1 in d, e and n1 to n3, R^-2 in z, R^-3 in z3, y and a1 to
-   c2, R^-7 in z0, R^-10 in z1, R^-11 in zzz. Then z0 and zzz are taken times R^3, so that o is R^5 / Z. b may be NULL. */
+   c2, R^-7 in z0, R^-10 in z1, R^-11 in zzz. z0 and zzz are then taken times R^3, so that o is R^5 / Z. For b = NULL
+   it is computed here, where it need not be waited for. */
 INLINE int solve(enum form w, curve c, const struct numbers *s, const struct scaled *b, const struct matrix *m,
                  struct nine *r)
 {
@@ -275,14 +280,14 @@ INLINE int double_by(enum form w, curve c, const struct nine *a, struct nine *r)
     return solve(w, c, &s, &b, &m, r);
 }
 
-#define BY(name, form)                                                                              \
-    int quick_sum_##name(curve c, const struct nine *a, const struct nine *b, struct nine *r)       \
-    {                                                                                               \
-        return sum_by(form, c, a, b, r);                                                            \
-    }                                                                                               \
-    int quick_double_##name(curve c, const struct nine *a, struct nine *r)                          \
-    {                                                                                               \
-        return double_by(form, c, a, r);                                                            \
+#define BY(name, form)                                                                        \
+    int quick_sum_##name(curve c, const struct nine *a, const struct nine *b, struct nine *r) \
+    {                                                                                         \
+        return sum_by(form, c, a, b, r);                                                      \
+    }                                                                                         \
+    int quick_double_##name(curve c, const struct nine *a, struct nine *r)                    \
+    {                                                                                         \
+        return double_by(form, c, a, r);                                                      \
     }
 
 BY(montgomery, MONTGOMERY)
@@ -291,17 +296,17 @@ BY(remainder, REMAINDER)
 
 /* ---- document 000, section 6 ---- */
 
-/* The rows of the matrix in an order in which the first two pivots, a1 and b1 = a1 a7 - a2 a6, are not 0. */
-static int order_rows(curve c, u64 m[3][5])
+/* Puts the rows in an order in which a1 and b1 = a1 a7 - a2 a6 are not 0, and returns b1; 0 if there is none. */
+INLINE u64 order_rows(curve c, u64 m[3][5])
 {
     for (int i = 0; i < 6; i++) {
-        if (m[0][0] != 0 && minor(REMAINDER, c, m[0][0], m[1][1], m[0][1], m[1][0]) != 0)
-            return 1;
-        u64 *s = m[i % 2], *t = m[i % 2 + 1]; /* rows 1 and 2, then 2 and 3, and so on, go through all six orders */
-        for (int j = 0; j < 5; j++) {
-            u64 x = s[j];
-            s[j] = t[j];
-            t[j] = x;
+        u64 b1 = minor(REMAINDER, c, m[0][0], m[1][1], m[0][1], m[1][0]);
+        if (m[0][0] != 0 && b1 != 0)
+            return b1;
+        for (int j = 0; j < 5; j++) { /* rows 1 and 2, then 2 and 3, and so on: that goes through all six orders */
+            u64 x = m[i % 2][j];
+            m[i % 2][j] = m[i % 2 + 1][j];
+            m[i % 2 + 1][j] = x;
         }
     }
     return 0;
@@ -315,12 +320,9 @@ INLINE int source(curve c, const struct numbers *s, const struct matrix *o, stru
     u64 m[3][5] = {{o->c1.a, o->c2.a, o->c3.a, minus(c, 0, o->d.a), minus(c, 0, o->e.a)},
                    {o->c1.b, o->c2.b, o->c3.b, minus(c, 0, o->d.b), minus(c, 0, o->e.b)},
                    {o->c1.d, o->c2.d, o->c3.d, minus(c, 0, o->d.d), minus(c, 0, o->e.d)}};
-    u64 b1 = minor(w, c, m[0][0], m[1][1], m[0][1], m[1][0]);
-    if (m[0][0] == 0 || b1 == 0) {
-        if (!order_rows(c, m))
-            return 0;
-        b1 = minor(w, c, m[0][0], m[1][1], m[0][1], m[1][0]);
-    }
+    u64 b1 = order_rows(c, m);
+    if (b1 == 0)
+        return 0;
     u64 a1 = m[0][0], a2 = m[0][1], a3 = m[0][2], a4 = m[0][3], a5 = m[0][4];
     u64 a6 = m[1][0], a7 = m[1][1], a8 = m[1][2], a9 = m[1][3], a10 = m[1][4];
     u64 a11 = m[2][0], a12 = m[2][1], a13 = m[2][2], a14 = m[2][3], a15 = m[2][4];
@@ -331,8 +333,9 @@ INLINE int source(curve c, const struct numbers *s, const struct matrix *o, stru
     u64 b7 = reduce(w, c, b1 * a15 + (pp - d1 * a10) + d2 * a5);
     u64 y = reduce(w, c, a1 * b1), z = reduce(w, c, y * b5);
     u64 e1 = minor(w, c, b3, b5, b2, b6), e2 = minor(w, c, b4, b5, b2, b7);
-    u64 A1 = minor(w, c, b1, minor(w, c, a4, b5, b6, a3), a2, e1), B1 = reduce(w, c, a1 * e1), C1 = reduce(w, c, y * b6);
-    u64 A2 = minor(w, c, b1, minor(w, c, a5, b5, b7, a3), a2, e2), B2 = reduce(w, c, a1 * e2), C2 = reduce(w, c, y * b7);
+    u64 A1 = minor(w, c, b1, minor(w, c, a4, b5, b6, a3), a2, e1);
+    u64 A2 = minor(w, c, b1, minor(w, c, a5, b5, b7, a3), a2, e2);
+    u64 B1 = reduce(w, c, a1 * e1), C1 = reduce(w, c, y * b6), B2 = reduce(w, c, a1 * e2), C2 = reduce(w, c, y * b7);
     u64 U1 = reduce(w, c, z * s->f0 + (pp - C1 * s->h1) + (pp - B1 * s->g1) + (pp - A1 * s->f1));
     u64 U2 = reduce(w, c, 3 * pp - C1 * s->h2 - B1 * s->g2 - A1 * s->f2);
     u64 U3 = reduce(w, c, z * s->f1 + p - A1), U4 = reduce(w, c, z * s->f2 + p - B1), U5 = minus(c, 0, C1);
@@ -392,8 +395,6 @@ void quick_prepare(struct quick_curve *c, uint32_t p, uint32_t c3, uint32_t c4, 
     c->reciprocal = UINT64_MAX / p;
     c->square = R * R % p;
     c->fourth = c->square * c->square % p;
-    c->c3 = c3;
-    c->c4 = c4;
-    c->c7 = c7;
+    c->c3 = c3, c->c4 = c4, c->c7 = c7;
     c->c7R = c7 * R % p;
 }

@@ -19,10 +19,10 @@ struct nine {
 };
 
 struct quick_curve {
-    uint64_t p, pp;          /* p and its square */
-    uint64_t inverse;        /* the inverse of p modulo 2^64 */
-    uint64_t reciprocal;     /* (2^64 - 1) / p */
-    uint64_t square, fourth; /* powers of R = -2^64 modulo p */
+    uint64_t p, pp;           /* p and its square */
+    uint64_t inverse;         /* the inverse of p modulo 2^64 */
+    uint64_t reciprocal;      /* (2^64 - 1) / p */
+    uint64_t square, fourth;  /* powers of R = -2^64 modulo p */
     uint64_t c3, c4, c7, c7R; /* the curve's coefficients; c7 R */
 };
 

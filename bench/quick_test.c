@@ -1,6 +1,7 @@
 /* Test and times of quick.c.
      quick_test         every version against the general sum of core.c, and known terms of two sequences
-     quick_test times   ns of CPU time for an operation, by each version */
+     quick_test times   ns of CPU time for an operation, by each version
+     quick_test alone VERSION sum|double N   N operations by one version, for a counter of instructions */
 #define _POSIX_C_SOURCE 199309L
 #include "core.h"
 #include "field.h"
@@ -113,8 +114,6 @@ static void check_pair(const struct set *s, const struct record *a, const struct
         int served_sum = version[i].sum(&s->quick, &r, &nb, &r);
         first_sum = i == 0 ? served_sum : first_sum;
         check(version[i].name, served_sum, &r, &sum_ab, first_sum);
-        if (version[i].twice == NULL)
-            continue;
         int served_double = version[i].twice(&s->quick, &q, &q);
         first_double = i == 0 ? served_double : first_double;
         check(version[i].name, served_double, &q, &twice_a, first_double);
@@ -140,6 +139,31 @@ static void compare(uint32_t p, int curves, int records)
         }
     }
     printf("p = %u: %ld pairs of kind 31, %ld sums and %ld doubles served, all right\n", p, t.pairs, t.sums, t.doubles);
+}
+
+/* Numbers that are 0, 1, p - 1, p - 2 or random, of divisors or not: all versions compute the same functions. */
+static void extremes(uint32_t p)
+{
+    struct quick_curve c;
+    struct nine ab[2], r[2], q[2];
+    long served = 0, tries = 200000;
+    for (long i = 0; i < tries; i++) {
+        for (int j = 0; j < 18; j++) {
+            uint32_t choice[6] = {0, 1, p - 1, p - 2, p - 1, random_below(p)};
+            ab[j / 9].n[j % 9] = choice[random_below(6)];
+        }
+        uint32_t bits = random_below(8);
+        quick_prepare(&c, p, bits % 2 * (p - 1), bits / 2 % 2 * (p - 1), bits / 4 * (p - 1));
+        int sum_0 = version[0].sum(&c, &ab[0], &ab[1], &r[0]), twice_0 = version[0].twice(&c, &ab[0], &q[0]);
+        for (int v = 1; v < VERSIONS; v++) {
+            int sum_v = version[v].sum(&c, &ab[0], &ab[1], &r[1]), twice_v = version[v].twice(&c, &ab[0], &q[1]);
+            if (sum_v != sum_0 || twice_v != twice_0 || (sum_0 && memcmp(&r[0], &r[1], sizeof r[0]) != 0) ||
+                (twice_0 && memcmp(&q[0], &q[1], sizeof q[0]) != 0))
+                fail("differs from the first version", version[v].name);
+        }
+        served += sum_0 + twice_0;
+    }
+    printf("p = %u: %ld results from extreme numbers, all versions agree\n", p, served);
 }
 
 /* ---- sequences ---- */
@@ -193,8 +217,8 @@ static void sequences(void)
             if (!fibonacci(&s.quick, version[i].sum, &a, &b, j == 0 ? 998 : 99000) ||
                 memcmp(&b, &fibonacci_terms[j], sizeof b) != 0)
                 fail("Fibonacci terms differ", version[i].name);
-            if (version[i].twice != NULL && (!doubling(&s.quick, version[i].twice, &d, j == 0 ? 999 : 99000) ||
-                                             memcmp(&d, &doubling_terms[j], sizeof d) != 0))
+            if (!doubling(&s.quick, version[i].twice, &d, j == 0 ? 999 : 99000) ||
+                memcmp(&d, &doubling_terms[j], sizeof d) != 0)
                 fail("doubling terms differ", version[i].name);
         }
     }
@@ -246,39 +270,37 @@ static void times(const struct set *s)
     }
     for (int round = 0; round < ROUNDS; round++)
         for (int v = 0; v < VERSIONS; v++)
-            for (int what = 0; what < (version[v].twice == NULL ? 2 : 4); what++) {
+            for (int what = 0; what < 4; what++) {
                 double t = once(&s->quick, v, what);
                 best[v][what] = t < best[v][what] ? t : best[v][what];
             }
     printf("\n| %s, p = %-10u | sum, chain | sum, array | double, chain | double, array |\n", COMPILER,
            (unsigned)s->quick.p);
     printf("|---|---:|---:|---:|---:|\n");
-    for (int v = 0; v < VERSIONS; v++) {
-        printf("| %-10s | %5.1f | %5.1f |", version[v].name, best[v][0], best[v][1]);
-        if (version[v].twice != NULL)
-            printf(" %5.1f | %5.1f |\n", best[v][2], best[v][3]);
-        else
-            printf("       |       |\n");
-    }
+    for (int v = 0; v < VERSIONS; v++)
+        printf("| %-10s | %5.1f | %5.1f | %5.1f | %5.1f |\n", version[v].name, best[v][0], best[v][1], best[v][2],
+               best[v][3]);
 }
 
-/* One version of one operation n times, for a counter of instructions. */
-static int alone(int argc, char **argv)
+/* One version of one operation n times. */
+static int alone(const char *name, const char *operation, int n)
 {
     struct set s;
     struct nine a = paper_d1, b = paper_d2;
-    int v = atoi(argv[2]), n = atoi(argv[4]);
     set_curve(&s, 268435399, paper_curve);
-    (void)argc;
-    return argv[3][0] == 's' ? !fibonacci(&s.quick, version[v].sum, &a, &b, n)
-                             : !doubling(&s.quick, version[v].twice, &a, n);
+    for (int v = 0; v < VERSIONS; v++)
+        if (strcmp(name, version[v].name) == 0)
+            return strcmp(operation, "sum") == 0 ? !fibonacci(&s.quick, version[v].sum, &a, &b, n)
+                                                 : !doubling(&s.quick, version[v].twice, &a, n);
+    fail("no such version", name);
+    return 1;
 }
 
 int main(int argc, char **argv)
 {
     static const uint32_t prime[7] = {2147483647, 268435399, 1009, 101, 11, 7, 5};
     if (argc == 5 && strcmp(argv[1], "alone") == 0)
-        return alone(argc, argv);
+        return alone(argv[2], argv[3], atoi(argv[4]));
     if (argc > 1 && strcmp(argv[1], "times") == 0) {
         for (int i = 0; i < 2; i++) {
             struct set s;
@@ -289,6 +311,8 @@ int main(int argc, char **argv)
     }
     for (int i = 0; i < 7; i++)
         compare(prime[i], 20, 500);
+    extremes(2147483647);
+    extremes(2147483629);
     sequences();
     return 0;
 }

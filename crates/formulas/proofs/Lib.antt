@@ -1,0 +1,2 @@
+-- Why one inversion is enough.
+pub mod Inverted

@@ -1,0 +1,2 @@
+-- The formulas for the sum of two divisors of kind 31.
+pub mod Contract

@@ -1,0 +1,2 @@
+-- Why the formulas give the sum.
+pub mod Equate
