@@ -1,2 +1,3 @@
 -- Why the formulas give the sum.
 pub mod Equate
+pub mod Complete

@@ -1,1 +1,36 @@
-// Sums of divisors of kind 31 by formulas with one inversion.
+// The sum of two divisors of kind 31 by value, by formulas with one inversion, where they serve: the determinant of the first three columns of the matrix of the
+// two divisors is not 0, and the sum has the kind 31 with f2 not 0.
+use basis::Divisor;
+use entries::Lower;
+use matrix::Column;
+ghost use Rattle.usual.specs.Contract.{CompleteAsked, CompleteOf};
+
+// Whether the formulas serve, and the sum if they do.
+pub struct Tried {
+    pub served: bool,
+    pub sum: Divisor,
+}
+
+// The divisor of the formulas, from the last two columns of the row-reduced matrix; i is the inverse of its f2.
+fn completed(p: u32, o: Lower, n: Divisor, s: Column, t: Column, i: u32) -> Divisor
+    requires { ⌜ CompleteAsked p o n s t i ⌝ }
+    ensures { λ r. ⌜ CompleteOf p o n s t i r ⌝ }
+{
+    let u = formulas::tail_of(p, n, n.n0, n.n1, n.n2, s);
+    let v = formulas::tail_of(p, n, n.n3, n.n4, n.n5, t);
+    let h = formulas::head_of(p, o, u, v, s.y, t.y);
+    let b = formulas::body_of(p, o, u, v, s.y, h, i);
+    let l = formulas::last_of(p, h, b, i);
+    Divisor {
+        kind: 31,
+        n0: b.f0,
+        n1: b.f1,
+        n2: h.f2,
+        n3: b.g0,
+        n4: h.g1,
+        n5: b.g2,
+        n6: l.h0,
+        n7: l.h1,
+        n8: l.h2,
+    }
+}

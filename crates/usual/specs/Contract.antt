@@ -1,0 +1,47 @@
+-- What the functions for the sum by formulas require and ensure.
+--   IsLower p C o          o has the coefficients of y³ on the curve C
+--   us-of, vs-of           the numbers of u and v, for the last two columns s and t of the row-reduced matrix
+--   CompleteAsked, CompleteOf      completed: the divisor of the formulas
+use mathlib.Core.Path.{_≡_}
+use Prim.Native.Nat.{ℕ, _<_}
+use Rattle.algebra.specs.Ring.{CommRing, ops}
+use Rattle.field.specs.Residue.{Z, el}
+use Rattle.curve.specs.Curve.{Curve}
+use Rattle.divisor.specs.Kind.{k31}
+use Rattle.type61.proofs.Form.{less}
+use Rattle.type61_numbers.proofs.Equations.{Equations, F2-of, c-of}
+use Rattle.basis.specs.declared.Divisor.{Divisor}
+use Rattle.basis.specs.Divisor.{residues, Shaped}
+use Rattle.matrix.specs.declared.Column.{Column}
+use Rattle.matrix.specs.Matrix.{ColumnBelow, residues-of}
+use Rattle.entries.specs.declared.Lower.{Lower}
+use Rattle.entries.specs.Contract.{NumbersBelow, LowerBelow}
+
+pub record IsLower (p : ℕ) (C : Curve (Z p)) (o : Lower) : Type 0 where
+  pub n6-is : el p (o .n6) ≡ Z p .neg (C .c3)
+  pub n7-is : el p (o .n7) ≡ Z p .neg (C .c4)
+  pub n8-is : el p (o .n8) ≡ Z p .neg (C .c5)
+  pub n9-is : el p (o .n9) ≡ Z p .neg (C .c6)
+  pub n10-is : el p (o .n10) ≡ Z p .neg (C .c7)
+  pub n11-is : el p (o .n11) ≡ Z p .neg (C .c8)
+  pub n12-is : el p (o .n12) ≡ Z p .neg (C .a0)
+
+abbrev pub us-of : (p : ℕ) (n : Divisor) (s : ℕ → Z p .Car) → ℕ → Z p .Car
+us-of p n s = less (ops (Z p)) (residues p n) 0 s
+
+abbrev pub vs-of : (p : ℕ) (n : Divisor) (t : ℕ → Z p .Car) → ℕ → Z p .Car
+vs-of p n t = less (ops (Z p)) (residues p n) 3 t
+
+pub record CompleteAsked (p : ℕ) (o : Lower) (n : Divisor) (s t : Column) (i : ℕ) : Type 0 where
+  pub o-below : LowerBelow p o
+  pub n-below : NumbersBelow p n
+  pub s-below : ColumnBelow p s
+  pub t-below : ColumnBelow p t
+  pub i-below : i < p
+
+pub record CompleteOf (p : ℕ) (o : Lower) (n : Divisor) (s t : Column) (i : ℕ) (r : Divisor) : Type 0 where
+  pub shaped : Shaped p k31 r
+  pub second : (C : Curve (Z p)) → IsLower p C o
+      → residues p r 2 ≡ F2-of (ops (Z p)) (C .a0) (c-of C) (us-of p n (residues-of p s)) (vs-of p n (residues-of p t))
+  pub equations : (C : Curve (Z p)) → IsLower p C o → Z p .mul (residues p r 2) (el p i) ≡ Z p .one
+      → Equations C (us-of p n (residues-of p s)) (vs-of p n (residues-of p t)) (residues p r)

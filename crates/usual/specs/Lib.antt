@@ -1,0 +1,2 @@
+-- What the functions for the sum by formulas require and ensure.
+pub mod Contract
