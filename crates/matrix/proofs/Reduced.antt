@@ -1,6 +1,7 @@
 -- The row-reduced form of a matrix from the vector and scalar products of its columns.
 --   below-at               the columns of a matrix of numbers below p
 --   Made, cleared-made     z times the form
+--   unscaled               d from z·d, by the inverse of z
 --   row-reduced            the form, where c is z times it and u the inverse of z
 use mathlib.Core.Path.{_≡_, sym, _∙_, ap, subst}
 use mathlib.Core.List.{List, [], _∷_}
@@ -74,7 +75,7 @@ module _ {p : ℕ} {m r : List (List ℕ)} {bc ca ab : Column} {z : ℕ} {d e : 
       (subst (λ t. Made p r (column-at m 0) t c v w bc ca ab z d e) eb (subst (λ t. Made p r t b c v w bc ca ab z d e) ea h)))))
 
 -- d = z·u·d for u·z = 1
-unscaled : (R : CommRing) (z u d s0 s1 s2 a b c t0 t1 t2 : R .Car) → R .mul z d ≡ dot₃ R s0 a s1 b s2 c → R .mul z u ≡ R .one → t0 ≡ R .mul s0 u → t1 ≡ R .mul s1 u → t2 ≡ R .mul s2 u
+pub unscaled : (R : CommRing) (z u d s0 s1 s2 a b c t0 t1 t2 : R .Car) → R .mul z d ≡ dot₃ R s0 a s1 b s2 c → R .mul z u ≡ R .one → t0 ≡ R .mul s0 u → t1 ≡ R .mul s1 u → t2 ≡ R .mul s2 u
     → R .mul (R .one) d ≡ dot₃ R t0 a t1 b t2 c
 unscaled R z u d s0 s1 s2 a b c t0 t1 t2 e h e0 e1 e2 =
     solve-from R 12

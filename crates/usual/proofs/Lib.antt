@@ -1,3 +1,4 @@
 -- Why the formulas give the sum.
 pub mod Equate
 pub mod Complete
+pub mod Pivots

@@ -2,9 +2,18 @@
 --   IsLower p C o          o has the coefficients of y³ on the curve C
 --   us-of, vs-of           the numbers of u and v, for the last two columns s and t of the row-reduced matrix
 --   CompleteAsked, CompleteOf      completed: the divisor of the formulas
+--   SolveAsked             solved: what it requires
+--   Pivoted p m            the determinant of the first three columns of m is not zero, and s and t are the last two of its row-reduced form
+--   Solved p o n m r       … and r is the divisor of the formulas, with f2 not zero
+--   Unsolved p o n m       the determinant is zero, or f2 is
+--   SolvedOf               solved: the one where it serves, and the other where it does not
 use mathlib.Core.Path.{_≡_}
+use mathlib.Core.Bool.{true, false}
+use mathlib.Core.Logic.{_⊎_}
+use mathlib.Core.List.{List}
 use Prim.Native.Nat.{ℕ, _<_}
 use Rattle.algebra.specs.Ring.{CommRing, ops}
+use Rattle.prime.specs.Prime.{Prime}
 use Rattle.field.specs.Residue.{Z, el}
 use Rattle.curve.specs.Curve.{Curve}
 use Rattle.divisor.specs.Kind.{k31}
@@ -13,9 +22,11 @@ use Rattle.type61_numbers.proofs.Equations.{Equations, F2-of, c-of}
 use Rattle.basis.specs.declared.Divisor.{Divisor}
 use Rattle.basis.specs.Divisor.{residues, Shaped}
 use Rattle.matrix.specs.declared.Column.{Column}
-use Rattle.matrix.specs.Matrix.{ColumnBelow, residues-of}
+use Rattle.matrix.specs.Matrix.{ColumnBelow, MatrixBelow, residues-of}
+use Rattle.matrix.specs.Contract.{determinant, Combines, column-residues}
 use Rattle.entries.specs.declared.Lower.{Lower}
 use Rattle.entries.specs.Contract.{NumbersBelow, LowerBelow}
+use Rattle.usual.specs.declared.Tried.{Tried}
 
 pub record IsLower (p : ℕ) (C : Curve (Z p)) (o : Lower) : Type 0 where
   pub n6-is : el p (o .n6) ≡ Z p .neg (C .c3)
@@ -45,3 +56,32 @@ pub record CompleteOf (p : ℕ) (o : Lower) (n : Divisor) (s t : Column) (i : �
       → residues p r 2 ≡ F2-of (ops (Z p)) (C .a0) (c-of C) (us-of p n (residues-of p s)) (vs-of p n (residues-of p t))
   pub equations : (C : Curve (Z p)) → IsLower p C o → Z p .mul (residues p r 2) (el p i) ≡ Z p .one
       → Equations C (us-of p n (residues-of p s)) (vs-of p n (residues-of p t)) (residues p r)
+
+pub record SolveAsked (p : ℕ) (o : Lower) (n : Divisor) (m : List (List ℕ)) : Type 0 where
+  pub prime : Prime p
+  pub o-below : LowerBelow p o
+  pub n-below : NumbersBelow p n
+  pub m-below : MatrixBelow p m
+
+pub record Pivoted (p : ℕ) (m : List (List ℕ)) : Type 0 where
+  pub pivots : ¬ (determinant (Z p) (column-residues p m 0) (column-residues p m 1) (column-residues p m 2) ≡ Z p .zero)
+  pub s : ℕ → Z p .Car
+  pub t : ℕ → Z p .Car
+  pub s-is : Combines (Z p) (column-residues p m 0) (column-residues p m 1) (column-residues p m 2) s (Z p .one) (column-residues p m 3)
+  pub t-is : Combines (Z p) (column-residues p m 0) (column-residues p m 1) (column-residues p m 2) t (Z p .one) (column-residues p m 4)
+
+pub record Solved (p : ℕ) (o : Lower) (n : Divisor) (m : List (List ℕ)) (r : Divisor) : Type 0 where
+  pub pivoted : Pivoted p m
+  pub shaped : Shaped p k31 r
+  pub typical : ¬ (residues p r 2 ≡ Z p .zero)
+  pub equations : (C : Curve (Z p)) → IsLower p C o → Equations C (us-of p n (pivoted .s)) (vs-of p n (pivoted .t)) (residues p r)
+
+abbrev pub Unsolved : (p : ℕ) (o : Lower) (n : Divisor) (m : List (List ℕ)) → Type 0
+Unsolved p o n m =
+    (determinant (Z p) (column-residues p m 0) (column-residues p m 1) (column-residues p m 2) ≡ Z p .zero)
+    ⊎ ((P : Pivoted p m)
+    × ((C : Curve (Z p)) → IsLower p C o → F2-of (ops (Z p)) (C .a0) (c-of C) (us-of p n (P .s)) (vs-of p n (P .t)) ≡ Z p .zero))
+
+pub record SolvedOf (p : ℕ) (o : Lower) (n : Divisor) (m : List (List ℕ)) (r : Tried) : Type 0 where
+  pub yes : r .served ≡ true → Solved p o n m (r .sum)
+  pub no : r .served ≡ false → Unsolved p o n m

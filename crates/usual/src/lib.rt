@@ -3,7 +3,7 @@
 use basis::Divisor;
 use entries::Lower;
 use matrix::Column;
-ghost use Rattle.usual.specs.Contract.{CompleteAsked, CompleteOf};
+ghost use Rattle.usual.specs.Contract.{CompleteAsked, CompleteOf, SolveAsked, SolvedOf};
 
 // Whether the formulas serve, and the sum if they do.
 pub struct Tried {
@@ -33,4 +33,35 @@ fn completed(p: u32, o: Lower, n: Divisor, s: Column, t: Column, i: u32) -> Divi
         n7: l.h1,
         n8: l.h2,
     }
+}
+
+// The sum by the matrix m of the divisor n and another one, where the formulas serve.
+fn solved(p: u32, o: Lower, n: Divisor, m: [[u32; 5]; 3]) -> Tried
+    requires { ⌜ SolveAsked p o n m ⌝ }
+    ensures { λ r. ⌜ SolvedOf p o n m r ⌝ }
+{
+    let c = matrix::cleared(p, m);
+    let first = matrix::column_of(c, 0);
+    let d = matrix::column_of(c, 3);
+    let e = matrix::column_of(c, 4);
+    let z = first.one;
+    if z == 0 {
+        return Tried {
+            served: false,
+            sum: n,
+        };
+    }
+    let y = formulas::factor(p, o, n.n2, z, d.x, d.y, e.y);
+    if y == 0 {
+        return Tried {
+            served: false,
+            sum: n,
+        };
+    }
+    let i = formulas::inverses_of(p, z, y);
+    let r = matrix::row_reduced(p, c, i.one);
+    let s = matrix::column_of(r, 3);
+    let t = matrix::column_of(r, 4);
+    let sum = completed(p, o, n, s, t, i.two);
+    Tried { served: true, sum }
 }
