@@ -1,7 +1,6 @@
 -- Columns: the coordinates at 1, x and y of elements modulo the ideal of a record of kind 31. Three columns with a determinant that is not zero are a basis.
 --   plane-over O x y c     c0 + c1·x + c2·y, over any operations
 --   mix O s a b c          s0·a + s1·b + s2·c
---   determinant O a b c    the determinant of three columns
 --   replaced O a b c d j   … with d in place of the column j
 --   Solves k a b c d s     d = s0·a + s1·b + s2·c, for columns
 --   plane C c              c0 + c1·x + c2·y in the coordinate ring
@@ -33,6 +32,7 @@ use Rattle.divisor.proofs.Terms.{Terms, terms, find, coefficient-terms}
 use Rattle.divisor.proofs.Table.{class-by}
 use Rattle.formula.proofs.Letters as letters
 use Rattle.formula.proofs.Value.{origin-at}
+use Rattle.columns.specs.Pivots.{determinant}
 
 module _ {A : Type 0} (O : Ops A) where
   abbrev _⊹_ : A → A → A
@@ -52,13 +52,10 @@ module _ {A : Type 0} (O : Ops A) where
   abbrev pub mix : (ℕ → A) → A → A → A → A
   mix s a b c = s 0 · a ⊹ s 1 · b ⊹ s 2 · c
 
-  abbrev pub determinant : (ℕ → A) → (ℕ → A) → (ℕ → A) → A
-  determinant a b c = a 0 · (b 1 · c 2 ⊝ b 2 · c 1) ⊹ a 1 · (b 2 · c 0 ⊝ b 0 · c 2) ⊹ a 2 · (b 0 · c 1 ⊝ b 1 · c 0)
-
   abbrev pub replaced : (ℕ → A) → (ℕ → A) → (ℕ → A) → (ℕ → A) → ℕ → A
-  replaced a b c d zero = determinant d b c
-  replaced a b c d (suc zero) = determinant a d c
-  replaced a b c d (suc (suc j)) = determinant a b d
+  replaced a b c d zero = determinant O d b c
+  replaced a b c d (suc zero) = determinant O a d c
+  replaced a b c d (suc (suc j)) = determinant O a b d
 
 abbrev pub Solves : (k : CommRing) (a b c d s : ℕ → k .Car) → Type 0
 Solves k a b c d s = (i : ℕ) → i ≤ 2 → d i ≡ mix (ops k) s (a i) (b i) (c i)

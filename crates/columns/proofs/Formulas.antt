@@ -1,8 +1,6 @@
--- The columns that a program computes: formulas over any operations, and that they are columns. The numbers of a record are f0, f1, f2, g0, …, h2 in its order.
---   difference O n m j     the numbers of the polynomial j of n less those of m: its column modulo m
+-- The columns that a program computes, of specs/Pivots, are columns: those of f, g and h, of the three polynomials q of a double (crate invertible, proofs/Adjugate),
+-- and of their multiples by x. The numbers of a record are f0, f1, f2, g0, …, h2 in its order.
 --   shift O m c            a column of x·w modulo m, from the column c of w
---   R0, R1, R2, S0, T0, s, k, l    numbers of a curve and a record n
---   square O a0 c3 … c8 n j        the column of q j modulo n (crate invertible, proofs/Adjugate)
 --   difference-column, shift-column, square-column     these are columns
 --   member-in              the ideal of a record holds its polynomials
 use mathlib.Core.Path.{_≡_, refl, sym, _∙_, ap, subst}
@@ -28,6 +26,7 @@ use Rattle.formula.proofs.Value.{number-at, at-same, origin-at}
 use Rattle.invertible.proofs.Formula.{forms}
 use Rattle.invertible.proofs.Value.{nine, at}
 use Rattle.invertible.proofs.Adjugate.{q}
+use Rattle.columns.specs.Pivots.{difference, square}
 use Rattle.columns.proofs.Column.{plane-over, plane, IsColumn, column-cong}
 
 module _ {A : Type 0} (O : Ops A) where
@@ -42,49 +41,10 @@ module _ {A : Type 0} (O : Ops A) where
 
   infixl 60 _⊹_ _−_
   infixl 70 _·_
-  abbrev pub difference : (n m : ℕ → A) → ℕ → ℕ → A
-  difference n m j i = n (3 * j + i) − m (3 * j + i)
-
   abbrev pub shift : (m c : ℕ → A) → ℕ → A
   shift m c zero = O .neg (c 1 · m 0 ⊹ c 2 · m 3)
   shift m c (suc zero) = c 0 − (c 1 · m 1 ⊹ c 2 · m 4)
   shift m c (suc (suc i)) = O .neg (c 1 · m 2 ⊹ c 2 · m 5)
-
-  module _ (a0 c3 c4 c5 c6 c7 c8 : A) (n : ℕ → A) where
-    abbrev pub R2 : A
-    R2 = c7 − a0 · n 2
-
-    abbrev pub R1 : A
-    R1 = c6 − a0 · n 1
-
-    abbrev pub R0 : A
-    R0 = c3 − n 1 · R1 − c8 · n 7 − a0 · n 0
-
-    abbrev pub S0 : A
-    S0 = c4 − n 7 − n 2 · R1 − n 1 · R2 − c8 · n 8
-
-    abbrev pub T0 : A
-    T0 = c5 − n 8 − n 2 · R2
-
-    abbrev pub s : A
-    s = n 1 − n 5
-
-    abbrev pub k : A
-    k = R1 − a0 · n 5
-
-    abbrev pub l : A
-    l = R2 − a0 · n 2
-
-    abbrev pub square : ℕ → ℕ → A
-    square zero zero = s · T0 − n 2 · S0 − c8 · n 0 − n 3
-    square zero (suc zero) = T0 − c8 · n 5 − n 4
-    square zero (suc (suc i)) = s − c8 · n 2 − n 5
-    square (suc zero) zero = n 4 · T0 ⊹ n 2 · (R0 − a0 · n 0) − c8 · n 3 − n 6
-    square (suc zero) (suc zero) = n 2 · (R1 − a0 · n 1) − n 7
-    square (suc zero) (suc (suc i)) = T0 ⊹ n 4 ⊹ n 2 · l − c8 · n 5 − n 8
-    square (suc (suc j)) zero = k · n 0 ⊹ l · n 3 − s · R0 − n 4 · S0
-    square (suc (suc j)) (suc zero) = a0 · n 0 ⊹ k · n 1 ⊹ l · n 4 − R0 − s · R1
-    square (suc (suc j)) (suc (suc i)) = k · n 2 ⊹ l · n 5 − s · R2 − S0
 
 -- the multiples of f, g and h that q j has beside its column
 abbrev multiples : ℕ → List E

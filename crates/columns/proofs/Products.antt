@@ -28,7 +28,8 @@ use Rattle.type61.proofs.Form.{less, cubic, quartic}
 use Rattle.type61.proofs.Shape.{Type61}
 use Rattle.invertible.proofs.Value.{at}
 use Rattle.invertible.proofs.Adjugate.{q, adjugate}
-use Rattle.columns.proofs.Column.{mix, determinant, Solves, plane, mixed, IsColumn, column-cong, column-mix, column-zero, cramer, cramer-solves, independent}
+use Rattle.columns.specs.Pivots.{determinant}
+use Rattle.columns.proofs.Column.{mix, Solves, plane, mixed, IsColumn, column-cong, column-mix, column-zero, cramer, cramer-solves, independent}
 use Rattle.columns.proofs.Formulas.{member-in}
 use Rattle.columns.proofs.Transfer.{Transfer, transfer-type61}
 

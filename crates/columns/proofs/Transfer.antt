@@ -39,7 +39,8 @@ use Rattle.formula.proofs.Letters as letters
 use Rattle.formula.proofs.Letters.{_⊝_, origin}
 use Rattle.formula.proofs.Value.{at, number-at, at-same, origin-at}
 use Rattle.invertible.proofs.Certificate.{form}
-use Rattle.columns.proofs.Column.{mix, determinant, Solves, mixed, IsColumn, column-cong, column-mix, column-apart, column-zero, cramer, cramer-solves, independent}
+use Rattle.columns.specs.Pivots.{determinant}
+use Rattle.columns.proofs.Column.{mix, Solves, mixed, IsColumn, column-cong, column-mix, column-apart, column-zero, cramer, cramer-solves, independent}
 use Rattle.columns.proofs.Formulas.{shift, member-in, shift-column}
 
 -- the letters of the numbers of n, and of three more; x·(a polynomial) less a mixture of the three, and its numbers

@@ -6,15 +6,16 @@
 use mathlib.Core.Path.{_≡_, sym, _∙_, ap, subst}
 use mathlib.Core.List.{List, [], _∷_}
 use Prim.Native.Nat.{ℕ, zero, suc, _<_}
-use Rattle.algebra.specs.Ring.{CommRing}
+use Rattle.algebra.specs.Ring.{CommRing, ops}
 use Rattle.algebra.proofs.Solve.{solve-from, given, _⊞_, _⊠_, ⊟_}
 use Rattle.algebra.proofs.Norm.{unit}
 use Rattle.field.specs.Residue.{Z, el}
 use Rattle.field.specs.Contract.{Is}
+use Rattle.columns.specs.Pivots.{determinant}
 use Rattle.barrett.specs.Contract.{dot₃}
 use Rattle.matrix.specs.declared.Column.{Column}
 use Rattle.matrix.specs.Matrix.{entry, column, column-at, rows-of, ColumnBelow, MatrixBelow, residues-of}
-use Rattle.matrix.specs.Contract.{Crossed, scalar, Coordinates, determinant, Combines, column-residues, Cleared, RowReduced, RowReducedOf, Times}
+use Rattle.matrix.specs.Contract.{Crossed, scalar, Coordinates, Combines, column-residues, Cleared, RowReduced, RowReducedOf, Times}
 use Rattle.matrix.proofs.Cramer.{along, IsCross, cramer}
 
 pub below-at : {p : ℕ} {m : List (List ℕ)} {v : Column} → MatrixBelow p m → (j : ℕ) → j < 5 → v ≡ column-at m j → ColumnBelow p v
@@ -62,7 +63,7 @@ module _ {p : ℕ} {m r : List (List ℕ)} {bc ca ab : Column} {z : ℕ} {d e : 
     e-is = combines (h .bc-is) (h .ca-is) (h .ab-is) (h .z-is) (h .e-is);
   }
     where
-      dotted : scalar p (column-at m 0) bc ≡ determinant (Z p) (column-residues p m 0) (column-residues p m 1) (column-residues p m 2)
+      dotted : scalar p (column-at m 0) bc ≡ determinant (ops (Z p)) (column-residues p m 0) (column-residues p m 1) (column-residues p m 2)
       dotted i = dot₃ (Z p) (el p (entry m 0 0)) (h .bc-is .one i) (el p (entry m 1 0)) (h .bc-is .x i) (el p (entry m 2 0)) (h .bc-is .y i)
 
   pub cleared-made : {a b c v w : Column} → a ≡ column-at m 0 → b ≡ column-at m 1 → c ≡ column-at m 2 → v ≡ column-at m 3 → w ≡ column-at m 4

@@ -2,7 +2,6 @@
 --   TwoColumns p a b, FourColumns p v a b c        the entries of the columns are below p
 --   Crossed p a b r        crossed: r is the vector product
 --   Coordinates p v a b c r        coordinates: the scalar products of v with a, b and c
---   determinant R a b c    the determinant of three columns
 --   Combines R a b c s z d z·d = s0·a + s1·b + s2·c
 --   Cleared p m r          cleared: r is z times the row-reduced form of m, z the determinant of a, b, c
 --   TimesAsked, Times      times: u times a column
@@ -11,7 +10,8 @@
 use mathlib.Core.Path.{_≡_}
 use mathlib.Core.List.{List}
 use Prim.Native.Nat.{ℕ, _<_}
-use Rattle.algebra.specs.Ring.{CommRing}
+use Rattle.algebra.specs.Ring.{CommRing, ops}
+use Rattle.columns.specs.Pivots.{determinant}
 use Rattle.field.specs.Residue.{Z, el}
 use Rattle.field.specs.Contract.{Is}
 use Rattle.barrett.specs.Contract.{dot₃, cross₂}
@@ -44,10 +44,6 @@ pub record Coordinates (p : ℕ) (v a b c r : Column) : Type 0 where
   pub y : el p (r .y) ≡ scalar p v c
 
 module _ (R : CommRing) where
-  abbrev pub determinant : (a b c : ℕ → R .Car) → R .Car
-  determinant a b c =
-      dot₃ R (a 0) (cross₂ R (b 1) (c 2) (b 2) (c 1)) (a 1) (cross₂ R (b 2) (c 0) (b 0) (c 2)) (a 2) (cross₂ R (b 0) (c 1) (b 1) (c 0))
-
   abbrev pub Combines : (a b c s : ℕ → R .Car) → R .Car → (ℕ → R .Car) → Type 0
   Combines a b c s z d = (i : ℕ) → R .mul z (d i) ≡ dot₃ R (s 0) (a i) (s 1) (b i) (s 2) (c i)
 
@@ -61,7 +57,7 @@ module _ (p : ℕ) where
     pub d : Column
     pub e : Column
     pub rows : r ≡ rows-of (column z 0 0) (column 0 z 0) (column 0 0 z) d e
-    pub z-is : Is p z (determinant (Z p) (column-residues m 0) (column-residues m 1) (column-residues m 2))
+    pub z-is : Is p z (determinant (ops (Z p)) (column-residues m 0) (column-residues m 1) (column-residues m 2))
     pub d-below : ColumnBelow p d
     pub e-below : ColumnBelow p e
     pub d-is : Combines (Z p) (column-residues m 0) (column-residues m 1) (column-residues m 2) (residues-of p d) (el p z) (column-residues m 3)

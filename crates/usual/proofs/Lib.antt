@@ -2,3 +2,4 @@
 pub mod Equate
 pub mod Complete
 pub mod Pivots
+pub mod Twins

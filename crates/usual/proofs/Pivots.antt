@@ -24,13 +24,14 @@ use Rattle.curve.specs.Curve.{Curve}
 use Rattle.curve.proofs.Poles.{no-zero-divisors}
 use Rattle.columns.proofs.Column.{independent}
 use Rattle.type61_numbers.proofs.Equations.{F2-of, c-of}
+use Rattle.columns.specs.Pivots.{determinant}
 use Rattle.barrett.specs.Contract.{dot₃, cross₂}
 use Rattle.chains.specs.Contract.{more₁-less₁}
 use Rattle.basis.specs.declared.Divisor.{Divisor}
 use Rattle.basis.specs.Divisor.{residues}
 use Rattle.matrix.specs.declared.Column.{Column}
 use Rattle.matrix.specs.Matrix.{entry, column-at, ColumnBelow, residues-of}
-use Rattle.matrix.specs.Contract.{determinant, Combines, column-residues, Cleared, RowReduced, RowReducedOf}
+use Rattle.matrix.specs.Contract.{Combines, column-residues, Cleared, RowReduced, RowReducedOf}
 use Rattle.matrix.proofs.Reduced.{unscaled}
 use Rattle.entries.specs.declared.Lower.{Lower}
 use Rattle.formulas.specs.Contract.{FactorOf, InversesOf}
@@ -40,7 +41,7 @@ use Rattle.usual.specs.Contract.{IsLower, us-of, vs-of, CompleteOf, Pivo
 use Rattle.usual.proofs.Equate.{five, six}
 
 pub record Front (p : ℕ) (m c : List (List ℕ)) (z : ℕ) (d e : Column) : Type 0 where
-  pub z-is : Is p z (determinant (Z p) (column-residues p m 0) (column-residues p m 1) (column-residues p m 2))
+  pub z-is : Is p z (determinant (ops (Z p)) (column-residues p m 0) (column-residues p m 1) (column-residues p m 2))
   pub z-at : entry c 0 0 ≡ z
   pub d-below : ColumnBelow p d
   pub e-below : ColumnBelow p e
@@ -73,7 +74,7 @@ combined-zero R z v s0 s1 s2 d0 d1 d2 a b c e h =
     (λ z v s0 s1 s2 d0 d1 d2 a b c. given (⊟ z) (unit ⊠ v) (s0 ⊠ a ⊞ s1 ⊠ b ⊞ s2 ⊠ c) ∷ given unit (z ⊠ v) (d0 ⊠ a ⊞ d1 ⊠ b ⊞ d2 ⊠ c) ∷ [])
     (λ z v s0 s1 s2 d0 d1 d2 a b c. (z ⊠ s0 ⊞ ⊟ d0) ⊠ a ⊞ (z ⊠ s1 ⊞ ⊟ d1) ⊠ b ⊞ (z ⊠ s2 ⊞ ⊟ d2) ⊠ c) (λ z v s0 s1 s2 d0 d1 d2 a b c. E-ops .zero) tt z v s0 s1 s2 d0 d1 d2 a b c (e, (h, tt))
 
-times-columns : (K : Field) (a b c s d v : ℕ → K .ring .Car) (z : K .ring .Car) → ¬ (determinant (K .ring) a b c ≡ K .ring .zero) → Combines (K .ring) a b c s (K .ring .one) v
+times-columns : (K : Field) (a b c s d v : ℕ → K .ring .Car) (z : K .ring .Car) → ¬ (determinant (ops (K .ring)) a b c ≡ K .ring .zero) → Combines (K .ring) a b c s (K .ring .one) v
     → Combines (K .ring) a b c d z v → (j : ℕ) → j ≤ 2 → K .ring .mul z (s j) ≡ d j
 times-columns K a b c s d v z full hs hd j l =
     sub-zero→eq R (R .mul z (s j)) (d j)
@@ -99,7 +100,7 @@ factor-equals R =
 
 -- the determinant of the first three columns
 abbrev pivot : (p : ℕ) → List (List ℕ) → Z p .Car
-pivot p m = determinant (Z p) (column-residues p m 0) (column-residues p m 1) (column-residues p m 2)
+pivot p m = determinant (ops (Z p)) (column-residues p m 0) (column-residues p m 1) (column-residues p m 2)
 
 abbrev Unit-combines : (p : ℕ) → List (List ℕ) → (ℕ → Z p .Car) → ℕ → Type 0
 Unit-combines p m s j = Combines (Z p) (column-residues p m 0) (column-residues p m 1) (column-residues p m 2) s (Z p .one) (column-residues p m j)
@@ -178,10 +179,12 @@ module _ (p : ℕ) (prime : Prime p) (o : Lower) (n : Divisor) (m c : List (List
             yes = λ f. absurd (false≢true f);
             no =
                 λ _.
-                inr
-                (record { pivots = full; s = over d; t = over e; s-is = over-is d _ (W .d-is); t-is = over-is e _ (W .e-is) }, λ C O.
-                no-zero-divisors K (R .mul (el p z) (el p z)) _ (sym (factor-is (over d) (over e) (over-is d _ (W .d-is)) (over-is e _ (W .e-is)) C O) ∙ ap (el p) h ∙ el-zero p)
-                (λ f. z-nonzero (no-zero-divisors K (el p z) (el p z) f z-nonzero)));
+                inr (
+                  record { pivots = full; s = over d; t = over e; s-is = over-is d _ (W .d-is); t-is = over-is e _ (W .e-is) },
+                  λ C O.
+                      no-zero-divisors K (R .mul (el p z) (el p z)) _ (sym (factor-is (over d) (over e) (over-is d _ (W .d-is)) (over-is e _ (W .e-is)) C O) ∙ ap (el p) h ∙ el-zero p)
+                      (λ f. z-nonzero (no-zero-divisors K (el p z) (el p z) f z-nonzero)),
+                );
           }
         where
           over : Column → ℕ → R .Car

@@ -17,13 +17,14 @@ use Rattle.prime.specs.Prime.{Prime}
 use Rattle.field.specs.Residue.{Z, el}
 use Rattle.curve.specs.Curve.{Curve}
 use Rattle.divisor.specs.Kind.{k31}
+use Rattle.columns.specs.Pivots.{determinant}
 use Rattle.type61.proofs.Form.{less}
 use Rattle.type61_numbers.proofs.Equations.{Equations, F2-of, c-of}
 use Rattle.basis.specs.declared.Divisor.{Divisor}
 use Rattle.basis.specs.Divisor.{residues, Shaped}
 use Rattle.matrix.specs.declared.Column.{Column}
 use Rattle.matrix.specs.Matrix.{ColumnBelow, MatrixBelow, residues-of}
-use Rattle.matrix.specs.Contract.{determinant, Combines, column-residues}
+use Rattle.matrix.specs.Contract.{Combines, column-residues}
 use Rattle.entries.specs.declared.Lower.{Lower}
 use Rattle.entries.specs.Contract.{NumbersBelow, LowerBelow}
 use Rattle.usual.specs.declared.Tried.{Tried}
@@ -64,7 +65,7 @@ pub record SolveAsked (p : ℕ) (o : Lower) (n : Divisor) (m : List (List ℕ)) 
   pub m-below : MatrixBelow p m
 
 pub record Pivoted (p : ℕ) (m : List (List ℕ)) : Type 0 where
-  pub pivots : ¬ (determinant (Z p) (column-residues p m 0) (column-residues p m 1) (column-residues p m 2) ≡ Z p .zero)
+  pub pivots : ¬ (determinant (ops (Z p)) (column-residues p m 0) (column-residues p m 1) (column-residues p m 2) ≡ Z p .zero)
   pub s : ℕ → Z p .Car
   pub t : ℕ → Z p .Car
   pub s-is : Combines (Z p) (column-residues p m 0) (column-residues p m 1) (column-residues p m 2) s (Z p .one) (column-residues p m 3)
@@ -78,7 +79,7 @@ pub record Solved (p : ℕ) (o : Lower) (n : Divisor) (m : List (List ℕ)) (r :
 
 abbrev pub Unsolved : (p : ℕ) (o : Lower) (n : Divisor) (m : List (List ℕ)) → Type 0
 Unsolved p o n m =
-    (determinant (Z p) (column-residues p m 0) (column-residues p m 1) (column-residues p m 2) ≡ Z p .zero)
+    (determinant (ops (Z p)) (column-residues p m 0) (column-residues p m 1) (column-residues p m 2) ≡ Z p .zero)
     ⊎ ((P : Pivoted p m)
     × ((C : Curve (Z p)) → IsLower p C o → F2-of (ops (Z p)) (C .a0) (c-of C) (us-of p n (P .s)) (vs-of p n (P .t)) ≡ Z p .zero))
 

@@ -54,8 +54,8 @@ completed-requires : tie.Need-completed-requires
 completed-requires c κs =
     let asked = c .before .before .before .before .before .before .before .before .before .before .before .pre in
     let b =
-        form-below _ (asked .prime) _ (c .before .before .before .before .before .before .before .before .before .before .before .args .n) _ _ _ _ _ (front (c .before .before .before .before .before .before .before .before .before .before .cleared .ensures) (c .before .before .before .before .before .before .before .before .before .column-of .ensures) (c .before .before .before .before .before .before .before .before .column-of2 .ensures) (c .before .before .before .before .before .before .before .column-of3 .ensures)) (c .before .before .before .before .before .before .if1 .left) _ (c .before .before .before .before .before .factor .ensures) (c .before .before .before .before .if2 .left) _
-        (c .before .before .before .inverses-of .ensures) _ (c .before .before .before .before .before .before .before .before .before .before .cleared .ensures) (c .before .before .row-reduced .ensures) _ _ (c .before .column-of4 .ensures) (c .column-of5 .ensures) in
+    form-below _ (asked .prime) _ (c .before .before .before .before .before .before .before .before .before .before .before .args .n) _ _ _ _ _ (front (c .before .before .before .before .before .before .before .before .before .before .cleared .ensures) (c .before .before .before .before .before .before .before .before .before .column-of .ensures) (c .before .before .before .before .before .before .before .before .column-of2 .ensures) (c .before .before .before .before .before .before .before .column-of3 .ensures)) (c .before .before .before .before .before .before .if1 .left) _ (c .before .before .before .before .before .factor .ensures) (c .before .before .before .before .if2 .left) _
+    (c .before .before .before .inverses-of .ensures) _ (c .before .before .before .before .before .before .before .before .before .before .cleared .ensures) (c .before .before .row-reduced .ensures) _ _ (c .before .column-of4 .ensures) (c .column-of5 .ensures) in
     record { o-below = asked .o-below; n-below = asked .n-below; s-below = b .0; t-below = b .1; i-below = c .before .before .before .inverses-of .ensures .two-below }
 
 returns-3 : tie.Need-returns-3
