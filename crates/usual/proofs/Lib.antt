@@ -3,3 +3,5 @@ pub mod Equate
 pub mod Complete
 pub mod Pivots
 pub mod Twins
+pub mod Matrices
+pub mod Served

@@ -1,2 +1,3 @@
 -- What the functions for the sum by formulas require and ensure.
 pub mod Contract
+pub mod Trial
