@@ -5,3 +5,4 @@ pub mod Pivots
 pub mod Twins
 pub mod Matrices
 pub mod Served
+pub mod Asked

@@ -157,22 +157,19 @@ module _ (p : ℕ) (C : Curve (Z p)) {o : Lower} (O : IsLower p C o) (n : Diviso
 
   pub double-columns : Columns p C n (λ j. at C N (q j)) (at-curve (square (ops F))) (S .a) (S .b) (S .c) (S .d) (S .e)
   double-columns =
-      columns p C n (λ j. at C N (q j)) (at-curve (square (ops F))) (square-column C N)
-      (
+      columns p C n (λ j. at C N (q j)) (at-curve (square (ops F))) (square-column C N) (
         S .a-is .one-is ∙ (λ t. more₂-less₁ F (F .neg (N 3)) (N 2) (s0-is t) (O .n11-is t) (N 0) (W .s-is t) (t-is t)) ∙ equals 0 (omega arith) 0 (omega arith),
         (
           S .a-is .x-is ∙ (λ t. more₁ F (F .neg (F .add (t-is t) (N 4))) (O .n11-is t) (N 5)) ∙ equals 0 (omega arith) 1 (omega arith),
           S .a-is .y-is ∙ (λ t. more₁ F (F .add (W .s-is t) (F .neg (N 5))) (O .n11-is t) (N 2)) ∙ equals 0 (omega arith) 2 (omega arith),
         ),
-      )
-      (
+      ) (
         S .b-is .one-is ∙ (λ t. more₂-less₁ F (F .neg (N 6)) (N 2) (F .add (r0-is t) (a0-is t)) (O .n11-is t) (N 3) (N 4) (t-is t)) ∙ equals 1 (omega arith) 0 (omega arith),
         (
           S .b-is .x-is ∙ (λ t. more₁ F (F .neg (N 7)) (N 2) (F .add (r1-is t) (a1-is t))) ∙ equals 1 (omega arith) 1 (omega arith),
           S .b-is .y-is ∙ (λ t. more₂ F (F .add (N 4) (F .neg (F .add (t-is t) (N 8)))) (N 2) (l-is t) (O .n11-is t) (N 5)) ∙ equals 1 (omega arith) 2 (omega arith),
         ),
-      )
-      (
+      ) (
         S .c-is .one-is ∙ (λ t. more₃-less₁ F (el-zero p t) (k-is t) (N 0) (l-is t) (N 3) (N 4) (s0-is t) (W .s-is t) (r0-is t)) ∙ equals 2 (omega arith) 0 (omega arith),
         (
           S .c-is .x-is ∙ (λ t. more₂-less₁ F (F .neg (F .add (a0-is t) (r0-is t))) (k-is t) (N 1) (l-is t) (N 4) (W .s-is t) (r1-is t)) ∙ equals 2 (omega arith) 1 (omega arith),

@@ -2,7 +2,12 @@
 // two divisors is not 0, and the sum has the kind 31 with f2 not 0.
 use basis::Divisor;
 use entries::Lower;
+use ground::Ground;
 use matrix::Column;
+ghost use mathlib.Core.Path.{_≡_};
+ghost use Rattle.algebra.specs.Answers.{Answers};
+ghost use Rattle.basis.specs.Divisor.{numbers-of};
+ghost use Rattle.usual.specs.Trial.{TriedAsked, TriedOf};
 ghost use Rattle.usual.specs.Contract.{CompleteAsked, CompleteOf, SolveAsked, SolvedOf};
 
 // Whether the formulas serve, and the sum if they do.
@@ -64,4 +69,52 @@ fn solved(p: u32, o: Lower, n: Divisor, m: [[u32; 5]; 3]) -> Tried
     let t = matrix::column_of(r, 4);
     let sum = completed(p, o, n, s, t, i.two);
     Tried { served: true, sum }
+}
+
+// Have the two divisors the same numbers?
+fn same_numbers(a: Divisor, b: Divisor) -> bool
+    ensures { λ r. ⌜ Answers (numbers-of a ≡ numbers-of b) r ⌝ }
+{
+    if a.n0 != b.n0 {
+        return false;
+    }
+    if a.n1 != b.n1 {
+        return false;
+    }
+    if a.n2 != b.n2 {
+        return false;
+    }
+    if a.n3 != b.n3 {
+        return false;
+    }
+    if a.n4 != b.n4 {
+        return false;
+    }
+    if a.n5 != b.n5 {
+        return false;
+    }
+    if a.n6 != b.n6 {
+        return false;
+    }
+    if a.n7 != b.n7 {
+        return false;
+    }
+    if a.n8 != b.n8 {
+        return false;
+    }
+    true
+}
+
+// Whether the formulas serve for the sum of two divisors of kind 31, and the sum if they do.
+pub fn sum_tried(g: Ground, a: Divisor, b: Divisor) -> Tried
+    requires { ⌜ TriedAsked g a b ⌝ }
+    ensures { λ r. ⌜ TriedOf g a b r ⌝ }
+{
+    let o = entries::lower_of(&g.cube);
+    if same_numbers(a, b) {
+        let m = entries::double_matrix(g.p, o, a);
+        return solved(g.p, o, a, m);
+    }
+    let m = entries::sum_matrix(g.p, a, b);
+    solved(g.p, o, a, m)
 }
