@@ -2,3 +2,4 @@
 pub mod Divisor
 pub mod Stars
 pub mod Sums
+pub mod Formulas

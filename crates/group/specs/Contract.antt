@@ -2,7 +2,8 @@
 --   IsDivisor S r      r is a basis of some kind on the curve of S
 --   ideal S r D        its ideal
 --   NegativeAsked, NegativeOf      negative: the ideal of the result is I*
---   SumAsked, SumIs, SumOf         sum: it is the reduced ideal of the product
+--   SumAsked, SumIs, SumOf         sum, by_product: it is the reduced ideal of the product
+--   FormulasAsked                  by_formulas: two divisors of kind 31
 --   ProductStarOf                  product_star: it is J*, for the product J
 --   ZeroClass r                    zero_class: kind 0, and no number
 use mathlib.Core.Path.{_≡_}
@@ -47,6 +48,11 @@ SumIs {g} {a} {b} A r =
 
 abbrev pub SumOf : (g : Ground) (a b r : Divisor) → Type 0
 SumOf g a b r = (A : SumAsked g a b) → SumIs A r
+
+pub record FormulasAsked (g : Ground) (a b : Divisor) : Type 0 where
+  pub asked : SumAsked g a b
+  pub a-kind : a .kind ≡ 31
+  pub b-kind : b .kind ≡ 31
 
 abbrev pub ProductStarOf : (g : Ground) (a b r : Divisor) → Type 0
 ProductStarOf g a b r =

@@ -1,7 +1,7 @@
 // Sums and negatives of divisors by value, on the ground of a curve.
 use basis::Divisor;
 use ground::Ground;
-ghost use Rattle.group.specs.Contract.{NegativeAsked, NegativeOf, SumAsked, SumOf, ProductStarOf, ZeroClass};
+ghost use Rattle.group.specs.Contract.{NegativeAsked, NegativeOf, SumAsked, SumOf, FormulasAsked, ProductStarOf, ZeroClass};
 
 // I*, for the ideal I of a.
 pub fn negative(g: Ground, a: Divisor) -> Divisor
@@ -14,8 +14,34 @@ pub fn negative(g: Ground, a: Divisor) -> Divisor
     star::star(g, &t, &d)
 }
 
-// The reduced ideal of the product of the ideals of a and b. With the zero class the other one is the sum.
+// The reduced ideal of the product of the ideals of a and b: by formulas, where these serve for two divisors of kind 31, and else by the product.
 pub fn sum(g: Ground, a: Divisor, b: Divisor) -> Divisor
+    requires { ⌜ SumAsked g a b ⌝ }
+    ensures { λ r. ⌜ SumOf g a b r ⌝ }
+{
+    if a.kind != 31 {
+        return by_product(g, a, b);
+    }
+    if b.kind != 31 {
+        return by_product(g, a, b);
+    }
+    by_formulas(g, a, b)
+}
+
+// The same for two divisors of kind 31.
+fn by_formulas(g: Ground, a: Divisor, b: Divisor) -> Divisor
+    requires { ⌜ FormulasAsked g a b ⌝ }
+    ensures { λ r. ⌜ SumOf g a b r ⌝ }
+{
+    let t = usual::sum_tried(g, a, b);
+    if t.served {
+        return t.sum;
+    }
+    by_product(g, a, b)
+}
+
+// The same by the product of the ideals. With the zero class the other one is the sum.
+pub fn by_product(g: Ground, a: Divisor, b: Divisor) -> Divisor
     requires { ⌜ SumAsked g a b ⌝ }
     ensures { λ r. ⌜ SumOf g a b r ⌝ }
 {

@@ -1,8 +1,8 @@
--- `group::sum` meets its contract: two stars of the product, or the other divisor where one is of kind 0.
+-- `group::by_product` meets its contract: two stars of the product, or the other divisor where one is of kind 0.
 use borrow.Author.Needs.{needs}
 use Rattle.group.proofs.Sums.{sum-of, sum-left, sum-right, star-divisor}
-use Rattle.group.proofs.sum.Statement.{statement}
-use Rattle.group.proofs.sum.Tie as tie
+use Rattle.group.proofs.by_product.Statement.{statement}
+use Rattle.group.proofs.by_product.Tie as tie
 
 returns : tie.Need-returns
 returns c = sum-left (c .if1 .taken)
@@ -19,5 +19,5 @@ negative-requires c κs = star-divisor (c .product-star .ensures) (c .before .be
 returns-3 : tie.Need-returns-3
 returns-3 c = sum-of (c .before .product-star .ensures) (c .negative .ensures)
 
-pub sum-spec : {M : Type 1} → statement M
-sum-spec = tie.close (tie.spec returns returns-2 product-star-requires negative-requires returns-3)
+pub by-product-spec : {M : Type 1} → statement M
+by-product-spec = tie.close (tie.spec returns returns-2 product-star-requires negative-requires returns-3)
