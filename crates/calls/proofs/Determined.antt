@@ -1,5 +1,5 @@
 -- Each input of a call has at most one answer: what it returns and the bytes that it leaves.
---   check-curve-determined, check-divisor-determined, compare-determined, words-determined, count-determined   calls that write nothing
+--   check-curve-determined, check-divisor-determined, compare-determined, words-determined, quick-serves-determined, count-determined   calls that write nothing
 --   sum-determined, common-part-determined, common-multiple-determined, double-determined, negative-determined, multiple-determined,
 --   list-determined, reduce-determined     calls that write
 use mathlib.Core.Path.{_≡_, sym, _∙_, ap, subst}
@@ -16,7 +16,8 @@ use Rattle.record.proofs.Lists.{curve-sound, listed-once}
 use Rattle.record.proofs.Fractions.{fractions-sound, reduced-one}
 use Rattle.calls.specs.Answer.{Writes}
 use Rattle.calls.specs.Class.{IsListSum}
-use Rattle.calls.specs.Call.{CheckCurve, CheckDivisor, Sum, Double, Negative, Multiple, ListSum, Compare, Count, ReduceCurve, CompareWords, CommonPart, CommonMultiple, divisor-of, list-of, room, tally}
+use Rattle.calls.specs.Quick.{Serves}
+use Rattle.calls.specs.Call.{CheckCurve, CheckDivisor, Sum, Double, Negative, Multiple, ListSum, Compare, Count, ReduceCurve, CompareWords, QuickServes, CommonPart, CommonMultiple, divisor-of, list-of, room, tally}
 use Rattle.calls.proofs.Class.{Accepted, sum-one, negative-one}
 use Rattle.calls.proofs.Multiples.{list-one, multiple-one}
 use Rattle.calls.proofs.Parts.{part-one, common-multiple-one}
@@ -28,17 +29,20 @@ check-curve-determined c r s h k = returns-one (curve-stages c) (curve-sound c) 
 pub check-divisor-determined : (c a : List ℕ) (r s : ℤ) → CheckDivisor c a r → CheckDivisor c a s → r ≡ s
 check-divisor-determined c a r s h k = returns-one (curve-stages c ++ divisor-of c a) (one-sound c a) (λ r s p e e′. e ∙ sym e′) h k
 
--- the two answers of a comparison exclude each other
-compare-one : (a b : List ℕ) (r s : ℤ) → ((a ≡ b) × (r ≡ pos 1)) ⊎ ((¬ (a ≡ b)) × (r ≡ pos 0))
-    → ((a ≡ b) × (s ≡ pos 1)) ⊎ ((¬ (a ≡ b)) × (s ≡ pos 0)) → r ≡ s
-compare-one a b r s (inl (e, q)) (inl (e′, q′)) = q ∙ sym q′
-compare-one a b r s (inl (e, q)) (inr (n, q′)) = absurd (n e)
-compare-one a b r s (inr (n, q)) (inl (e, q′)) = absurd (n e)
-compare-one a b r s (inr (n, q)) (inr (n′, q′)) = q ∙ sym q′
+-- 1 for what holds and 0 for what does not exclude each other
+yes-or-no : (A : Type 0) (r s : ℤ) → (A × (r ≡ pos 1)) ⊎ ((¬ A) × (r ≡ pos 0)) → (A × (s ≡ pos 1)) ⊎ ((¬ A) × (s ≡ pos 0)) → r ≡ s
+yes-or-no A r s (inl (e, q)) (inl (e′, q′)) = q ∙ sym q′
+yes-or-no A r s (inl (e, q)) (inr (n, q′)) = absurd (n e)
+yes-or-no A r s (inr (n, q)) (inl (e, q′)) = absurd (n e)
+yes-or-no A r s (inr (n, q)) (inr (n′, q′)) = q ∙ sym q′
 
 pub compare-determined : (c a b : List ℕ) (r s : ℤ) → Compare c a b r → Compare c a b s → r ≡ s
 compare-determined c a b r s h k =
-    returns-one (curve-stages c ++ divisor-of c a ++ divisor-of c b) (two-sound c a b) (λ r s p. compare-one a b r s) h k
+    returns-one (curve-stages c ++ divisor-of c a ++ divisor-of c b) (two-sound c a b) (λ r s p. yes-or-no (a ≡ b) r s) h k
+
+pub quick-serves-determined : (c a b : List ℕ) (r s : ℤ) → QuickServes c a b r → QuickServes c a b s → r ≡ s
+quick-serves-determined c a b r s h k =
+    returns-one (curve-stages c ++ divisor-of c a ++ divisor-of c b) (two-sound c a b) (λ r s p. yes-or-no (Serves c a b) r s) h k
 
 pub words-determined : (c a b : List ℕ) (r s : ℤ) → CompareWords c a b r → CompareWords c a b s → r ≡ s
 words-determined c a b r s h k =

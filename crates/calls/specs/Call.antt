@@ -10,6 +10,7 @@
 --   ReduceCurve s p out r out′   document 02, 2026-01
 --   CompareWords c a b r         document 02, 2026-03
 --   CommonPart c a b out r out′  CommonMultiple c a b out r out′     document 02, 2026-04; the sum by the second road is Sum
+--   QuickServes c a b r          document 02, 2026-08; the quick sum is Sum, and the quick double is Double
 use mathlib.Core.Path.{_≡_}
 use mathlib.Core.Logic.{_⊎_}
 use mathlib.Core.List.{List, [], _∷_, _++_}
@@ -27,6 +28,7 @@ use Rattle.record.specs.Fractions.{AcceptedReduced, fractions-stages}
 use Rattle.record.specs.Listed.{Listed, list-stage, list-limit}
 use Rattle.calls.specs.Answer.{Writes, Returns}
 use Rattle.calls.specs.Class.{IsSum, IsNegative, IsMultiple, IsListSum, IsCommonPart, IsCommonMultiple}
+use Rattle.calls.specs.Quick.{Serves}
 
 -- the divisor a on the curve c
 abbrev pub divisor-of : (c a : List ℕ) → List Stage
@@ -99,3 +101,9 @@ CommonPart c a b out = Writes room (curve-stages c ++ divisor-of c a ++ divisor-
 
 abbrev pub CommonMultiple : (c a b out : List ℕ) → ℤ → List ℕ → Type 0
 CommonMultiple c a b out = Writes room (curve-stages c ++ divisor-of c a ++ divisor-of c b) (IsCommonMultiple c a b) out
+
+-- Document 02, 2026-08: "A second call on the same curve and records writes nothing and returns 1 where the formulas serve, 0 where the first falls back."
+abbrev pub QuickServes : (c a b : List ℕ) → ℤ → Type 0
+QuickServes c a b =
+    Returns (curve-stages c ++ divisor-of c a ++ divisor-of c b)
+    (λ r. (Serves c a b × (r ≡ pos 1)) ⊎ ((¬ Serves c a b) × (r ≡ pos 0)))
