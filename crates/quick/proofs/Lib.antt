@@ -1,0 +1,3 @@
+-- Where the quick sum is served.
+pub mod Records
+pub mod Serving

@@ -1,0 +1,2 @@
+-- Where the quick sum is served.
+pub mod Served
