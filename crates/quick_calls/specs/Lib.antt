@@ -1,0 +1,2 @@
+-- What the quick sum by value ensures.
+pub mod Added
