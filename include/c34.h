@@ -1,4 +1,4 @@
-/* Divisor class arithmetic on C34 curves over prime fields: the fourteen calls of libc34.a, for C and C++.
+/* Divisor class arithmetic on C34 curves over prime fields: the seventeen calls of libc34.a, for C and C++.
 
    The curve is y^3 + x^4 + c8 xy^2 + c7 x^2y + c6 x^3 + c5 y^2 + c4 xy + c3 x^2 + c2 y + c1 x + c0 over the field of
    p elements, p a prime from 2 to 2147483647. A divisor class is named by its reduced divisor, which is one record.
@@ -142,6 +142,26 @@ int32_t c34_common_multiple(const uint8_t *curve, size_t curve_len, const uint8_
 int32_t c34_sum_by_parts(const uint8_t *curve, size_t curve_len, const uint8_t *a, size_t a_len, const uint8_t *b,
                          size_t b_len, uint8_t *out, size_t out_len);
 
+/* The sum of two divisor classes by formulas with one inversion, where these serve (c34_quick_serves), and by that of
+   c34_sum where they do not. On the same bytes both calls return the same and write the same.
+   Domain: any bytes. Result: the length of the record written. Refusals: 1 to 9, for a before b, then 10.
+   Buffer: the record of a + b at its start; the rest stays. */
+int32_t c34_quick_sum(const uint8_t *curve, size_t curve_len, const uint8_t *a, size_t a_len, const uint8_t *b,
+                      size_t b_len, uint8_t *out, size_t out_len);
+
+/* The sum of a divisor class with itself, likewise; the same as c34_double.
+   Domain: any bytes. Result: the length of the record written. Refusals: 1 to 10.
+   Buffer: the record of 2 a at its start; the rest stays. */
+int32_t c34_quick_double(const uint8_t *curve, size_t curve_len, const uint8_t *a, size_t a_len, uint8_t *out,
+                         size_t out_len);
+
+/* Whether the formulas of c34_quick_sum serve for two divisors, those of c34_quick_double for two equal ones. They serve
+   exactly if p is above 3, c5, c6 and c8 are 0, both divisors and their sum have the kind 31 with f2 not 0, and a
+   determinant made of the curve's and the divisors' numbers is not 0, as for almost all pairs over a large field.
+   Domain: any bytes. Result: 1 for yes, 0 for no. Refusals: 1 to 9, for a before b. Writes nothing. */
+int32_t c34_quick_serves(const uint8_t *curve, size_t curve_len, const uint8_t *a, size_t a_len, const uint8_t *b,
+                         size_t b_len);
+
 /* Whether two divisors have the same bytes, which is whether their classes are equal.
    Domain: any bytes. Result: 1 for yes, 0 for no. Refusals: 1 to 9, for a before b. Writes nothing. */
 int32_t c34_compare(const uint8_t *curve, size_t curve_len, const uint8_t *a, size_t a_len, const uint8_t *b,
@@ -203,6 +223,13 @@ static inline uint8_t *c34_written(uint8_t *bytes)
 #define c34_sum_by_parts(curve, curve_len, a, a_len, b, b_len, out, out_len) \
     (c34_sum_by_parts)(c34_read(curve), (curve_len), c34_read(a), (a_len), c34_read(b), (b_len), c34_written(out), \
                        (out_len))
+#define c34_quick_sum(curve, curve_len, a, a_len, b, b_len, out, out_len) \
+    (c34_quick_sum)(c34_read(curve), (curve_len), c34_read(a), (a_len), c34_read(b), (b_len), c34_written(out), \
+                    (out_len))
+#define c34_quick_double(curve, curve_len, a, a_len, out, out_len) \
+    (c34_quick_double)(c34_read(curve), (curve_len), c34_read(a), (a_len), c34_written(out), (out_len))
+#define c34_quick_serves(curve, curve_len, a, a_len, b, b_len) \
+    (c34_quick_serves)(c34_read(curve), (curve_len), c34_read(a), (a_len), c34_read(b), (b_len))
 #define c34_compare(curve, curve_len, a, a_len, b, b_len) \
     (c34_compare)(c34_read(curve), (curve_len), c34_read(a), (a_len), c34_read(b), (b_len))
 #define c34_compare_words(curve, curve_len, a, a_len, b, b_len) \

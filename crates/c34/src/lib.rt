@@ -1,6 +1,6 @@
 // The calls of the host. Each takes slices and numbers, checks them in the documents' order and returns a signed number:
 // minus the number of the refusal, or what the call is for.
-ghost use Rattle.calls.specs.Call.{CheckCurve, CheckDivisor, Sum, Double, Negative, Multiple, ListSum, Compare, Count, ReduceCurve, CompareWords, CommonPart, CommonMultiple};
+ghost use Rattle.calls.specs.Call.{CheckCurve, CheckDivisor, Sum, Double, Negative, Multiple, ListSum, Compare, Count, ReduceCurve, CompareWords, CommonPart, CommonMultiple, QuickServes};
 
 // 1 for an accepted curve.
 #[no_mangle]
@@ -112,4 +112,28 @@ pub extern "C" fn c34_sum_by_parts(curve: &[u8], a: &[u8], b: &[u8], out: &mut [
     ensures { λ r. ⌜ Sum (now (curve .entry)) (now (a .entry)) (now (b .entry)) (now (out .entry)) r (now (out .exit)) ⌝ }
 {
     overlap::sum_by_parts(curve, a, b, out)
+}
+
+// The sum of two divisors, by formulas with one inversion where they serve.
+#[no_mangle]
+pub extern "C" fn c34_quick_sum(curve: &[u8], a: &[u8], b: &[u8], out: &mut [u8]) -> i32
+    ensures { λ r. ⌜ Sum (now (curve .entry)) (now (a .entry)) (now (b .entry)) (now (out .entry)) r (now (out .exit)) ⌝ }
+{
+    quick_calls::sum(curve, a, b, out)
+}
+
+// The sum of a divisor with itself, by the same formulas.
+#[no_mangle]
+pub extern "C" fn c34_quick_double(curve: &[u8], a: &[u8], out: &mut [u8]) -> i32
+    ensures { λ r. ⌜ Double (now (curve .entry)) (now (a .entry)) (now (out .entry)) r (now (out .exit)) ⌝ }
+{
+    quick_calls::double(curve, a, out)
+}
+
+// 1 where the formulas serve for the sum of two divisors, and 0 where the quick sum falls back.
+#[no_mangle]
+pub extern "C" fn c34_quick_serves(curve: &[u8], a: &[u8], b: &[u8]) -> i32
+    ensures { λ r. ⌜ QuickServes (now (curve .entry)) (now (a .entry)) (now (b .entry)) r ⌝ }
+{
+    quick_calls::serves(curve, a, b)
 }
