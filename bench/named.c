@@ -1,7 +1,8 @@
-/* The calls of calls.c, overlap_calls.c and points_calls.c under the library's names, so that tests/vectors.c and
-   tests/points.c make them in place of the archives'. */
+/* The calls of calls.c, overlap_calls.c, quick_calls.c and points_calls.c under the library's names, so that
+   tests/vectors.c and tests/points.c make them in place of the archives'. */
 #include "calls.c"
 #include "overlap_calls.c"
+#include "quick_calls.c"
 #include "points_calls.c"
 
 typedef const uint8_t *bytes;
@@ -54,6 +55,21 @@ int32_t c34_common_multiple(bytes c, size_t nc, bytes a, size_t na, bytes b, siz
 int32_t c34_sum_by_parts(bytes c, size_t nc, bytes a, size_t na, bytes b, size_t nb, uint8_t *out, size_t room)
 {
     return base_sum_by_parts(c, nc, a, na, b, nb, out, room);
+}
+
+int32_t c34_quick_sum(bytes c, size_t nc, bytes a, size_t na, bytes b, size_t nb, uint8_t *out, size_t room)
+{
+    return base_quick_sum(c, nc, a, na, b, nb, out, room);
+}
+
+int32_t c34_quick_double(bytes c, size_t nc, bytes a, size_t na, uint8_t *out, size_t room)
+{
+    return base_quick_double(c, nc, a, na, out, room);
+}
+
+int32_t c34_quick_serves(bytes c, size_t nc, bytes a, size_t na, bytes b, size_t nb)
+{
+    return base_quick_serves(c, nc, a, na, b, nb);
 }
 
 int32_t c34_compare(bytes c, size_t nc, bytes a, size_t na, bytes b, size_t nb)

@@ -31,7 +31,13 @@ int32_t by_library(const struct call *c)
         return c34_common_part(k.at, k.len, a.at, a.len, b.at, b.len, c->out, c->out_len);
     case COMMON_MULTIPLE:
         return c34_common_multiple(k.at, k.len, a.at, a.len, b.at, b.len, c->out, c->out_len);
-    default:
+    case SUM_BY_PARTS:
         return c34_sum_by_parts(k.at, k.len, a.at, a.len, b.at, b.len, c->out, c->out_len);
+    case QUICK_SUM:
+        return c34_quick_sum(k.at, k.len, a.at, a.len, b.at, b.len, c->out, c->out_len);
+    case QUICK_DOUBLE:
+        return c34_quick_double(k.at, k.len, a.at, a.len, c->out, c->out_len);
+    default:
+        return c34_quick_serves(k.at, k.len, a.at, a.len, b.at, b.len);
     }
 }

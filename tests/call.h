@@ -26,6 +26,9 @@ enum verb {
     COMMON_PART,
     COMMON_MULTIPLE,
     SUM_BY_PARTS,
+    QUICK_SUM,
+    QUICK_DOUBLE,
+    QUICK_SERVES,
     VERBS, /* those before are calls of libc34.a, those after of the archive of bench_points */
     POINTS_SUM,
     POINTS_OF,

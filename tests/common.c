@@ -3,8 +3,9 @@
 #include <stdio.h>
 #include <stdlib.h>
 
-const char *const verb_name[ALL_VERBS] = {"curve", "divisor", "sum", "double", "neg",  "mul", "lsum", "cmp",   "count",
-                                          "frac",  "words",   "gcd", "lcm",    "road", "",    "psum", "points"};
+const char *const verb_name[ALL_VERBS] = {"curve", "divisor", "sum",    "double", "neg", "mul",   "lsum",
+                                          "cmp",   "count",   "frac",   "words",  "gcd", "lcm",   "road",
+                                          "qsum",  "qdouble", "qserves", "",      "psum", "points"};
 
 int writes(enum verb verb)
 {
@@ -23,7 +24,8 @@ int compares(enum verb verb)
 
 int takes_two(enum verb verb)
 {
-    return verb == SUM || verb == COMMON_PART || verb == COMMON_MULTIPLE || verb == SUM_BY_PARTS || compares(verb);
+    return verb == SUM || verb == COMMON_PART || verb == COMMON_MULTIPLE || verb == SUM_BY_PARTS || verb == QUICK_SUM ||
+           verb == QUICK_SERVES || compares(verb);
 }
 
 int slices_read(enum verb verb)
@@ -42,6 +44,8 @@ size_t least_buffer(enum verb verb)
     case COMMON_PART:
     case COMMON_MULTIPLE:
     case SUM_BY_PARTS:
+    case QUICK_SUM:
+    case QUICK_DOUBLE:
     case POINTS_SUM:
         return 40;
     case REDUCE_CURVE:
