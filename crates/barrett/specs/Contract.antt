@@ -4,11 +4,11 @@
 --   cross₂                    a·b − c·d
 --   more₁                     x + a·b
 --   less₁ less₂ less₃         x − a·b, x − (a·b + c·d), x − (a·b + c·d + e·f)
---   Below₄ Below₅ Below₆ Below₇    four, five, six, seven numbers are below p
+--   Below₄ Below₅ Below₆ Below₇    four, five, six, seven numbers are below p, and p is below 2^31
 --   Terms p x a b             x is below p·2^32, a and b are below p
 --   Sum p r x                 r is a number below p·2^32 whose residue is x
 use mathlib.Core.Path.{_≡_}
-use Prim.Native.Nat.{ℕ, _*_, _/_, _<_}
+use Prim.Native.Nat.{ℕ, _+_, _*_, _/_, _<_, _≤_}
 use Rattle.algebra.specs.Ring.{CommRing}
 use Rattle.field.specs.Residue.{Z, el}
 
@@ -37,13 +37,18 @@ module _ (R : CommRing) where
   abbrev pub less₃ : R .Car → R .Car → R .Car → R .Car → R .Car → R .Car → R .Car → R .Car
   less₃ x a b c d e f = R .add x (R .neg (dot₃ a b c d e f))
 
+abbrev pub term : ℕ
+term = 4611686014132420609
+
 pub record Below₄ (p a b c d : ℕ) : Type 0 where
+  pub small : p < 2147483648
   pub below-1 : a < p
   pub below-2 : b < p
   pub below-3 : c < p
   pub below-4 : d < p
 
 pub record Below₅ (p a b c d e : ℕ) : Type 0 where
+  pub small : p < 2147483648
   pub below-1 : a < p
   pub below-2 : b < p
   pub below-3 : c < p
@@ -51,6 +56,7 @@ pub record Below₅ (p a b c d e : ℕ) : Type 0 where
   pub below-5 : e < p
 
 pub record Below₆ (p a b c d e f : ℕ) : Type 0 where
+  pub small : p < 2147483648
   pub below-1 : a < p
   pub below-2 : b < p
   pub below-3 : c < p
@@ -59,6 +65,7 @@ pub record Below₆ (p a b c d e f : ℕ) : Type 0 where
   pub below-6 : f < p
 
 pub record Below₇ (p a b c d e f g : ℕ) : Type 0 where
+  pub small : p < 2147483648
   pub below-1 : a < p
   pub below-2 : b < p
   pub below-3 : c < p
@@ -68,10 +75,11 @@ pub record Below₇ (p a b c d e f g : ℕ) : Type 0 where
   pub below-7 : g < p
 
 pub record Terms (p x a b : ℕ) : Type 0 where
-  pub below-sum : x < p * 4294967296
+  pub small : p < 2147483648
+  pub room : x + term < 18446744073709551616
   pub below-1 : a < p
   pub below-2 : b < p
 
-pub record Sum (p r : ℕ) (x : Z p .Car) : Type 0 where
-  pub below : r < p * 4294967296
-  pub is : el p r ≡ x
+pub record Sum (p x r : ℕ) (y : Z p .Car) : Type 0 where
+  pub more : r ≤ x + term
+  pub is : el p r ≡ y

@@ -1,5 +1,5 @@
-// Sums of products modulo p, for every p below 2^32. A sum is a number below p·2^32; products are added to it and taken
-// from it without a division, and it is reduced once, by a reciprocal of p.
+// Sums of products modulo p, for every p below 2^31. Four products at most are added to a number below p or taken from it, in 64 bits without a division, and the sum is
+// reduced once, by a reciprocal of p.
 ghost use mathlib.Core.Path.{_≡_};
 ghost use Prim.Native.Nat.{_<_};
 ghost use Rattle.field.specs.Residue.{Z, el};
@@ -32,8 +32,8 @@ pub fn reduce(p: u32, x: u64) -> u32
 
 // a·b, as a sum
 pub fn product(p: u32, a: u32, b: u32) -> u64
-    requires { ⌜ Below₂ p a b ⌝ }
-    ensures { λ r. ⌜ Sum p r (Z p .mul (el p a) (el p b)) ⌝ }
+    requires { ⌜ Terms p 0 a b ⌝ }
+    ensures { λ r. ⌜ Sum p 0 r (Z p .mul (el p a) (el p b)) ⌝ }
 {
     (a as u64) * (b as u64)
 }
@@ -41,24 +41,17 @@ pub fn product(p: u32, a: u32, b: u32) -> u64
 // x + a·b, as a sum
 pub fn add_product(p: u32, x: u64, a: u32, b: u32) -> u64
     requires { ⌜ Terms p x a b ⌝ }
-    ensures { λ r. ⌜ Sum p r (more₁ (Z p) (el p x) (el p a) (el p b)) ⌝ }
+    ensures { λ r. ⌜ Sum p x r (more₁ (Z p) (el p x) (el p a) (el p b)) ⌝ }
 {
-    let m = (a as u64) * (b as u64);
-    let d = (p as u64) * 4294967296 - m;
-    if x < d { x + m } else { x - d }
+    x + (a as u64) * (b as u64)
 }
 
-// x − a·b, as a sum
+// x − a·b, as the sum x + (p² − a·b)
 pub fn sub_product(p: u32, x: u64, a: u32, b: u32) -> u64
     requires { ⌜ Terms p x a b ⌝ }
-    ensures { λ r. ⌜ Sum p r (less₁ (Z p) (el p x) (el p a) (el p b)) ⌝ }
+    ensures { λ r. ⌜ Sum p x r (less₁ (Z p) (el p x) (el p a) (el p b)) ⌝ }
 {
-    let m = (a as u64) * (b as u64);
-    if x < m {
-        x + ((p as u64) * 4294967296 - m)
-    } else {
-        x - m
-    }
+    x + ((p as u64) * (p as u64) - (a as u64) * (b as u64))
 }
 
 // a·b
@@ -66,7 +59,7 @@ pub fn mul(p: u32, a: u32, b: u32) -> u32
     requires { ⌜ Below₂ p a b ⌝ }
     ensures { λ r. ⌜ Is p r (Z p .mul (el p a) (el p b)) ⌝ }
 {
-    reduce(p, product(p, a, b))
+    reduce(p, (a as u64) * (b as u64))
 }
 
 // a·b + c·d
@@ -102,7 +95,7 @@ pub fn more1(p: u32, x: u32, a: u32, b: u32) -> u32
     requires { ⌜ Below₃ p x a b ⌝ }
     ensures { λ r. ⌜ Is p r (more₁ (Z p) (el p x) (el p a) (el p b)) ⌝ }
 {
-    reduce(p, add_product(p, x as u64, a, b))
+    reduce(p, (x as u64) + (a as u64) * (b as u64))
 }
 
 // x − a·b
@@ -110,7 +103,7 @@ pub fn less1(p: u32, x: u32, a: u32, b: u32) -> u32
     requires { ⌜ Below₃ p x a b ⌝ }
     ensures { λ r. ⌜ Is p r (less₁ (Z p) (el p x) (el p a) (el p b)) ⌝ }
 {
-    reduce(p, sub_product(p, x as u64, a, b))
+    reduce(p, (x as u64) + (a as u64) * ((p - b) as u64))
 }
 
 // x − (a·b + c·d)

@@ -6,7 +6,7 @@
 --   more₃-less₁            x + a·b + c·d + e·f − g·h
 --   more₃-less₃            x + a·b + c·d + e·f − g·h − i·j − k·l
 --   more₂-less₃            x + a·b + c·d − e·f − g·h − i·j
---   Below-2 … Below-6      a number and the factors of so many products are below p
+--   Below-2 … Below-6      a number and the factors of so many products are below p, and p is below 2^31
 use Prim.Native.Nat.{ℕ, _<_}
 use Rattle.algebra.specs.Ring.{CommRing}
 use Rattle.barrett.specs.Contract.{more₁, less₁}
@@ -34,6 +34,7 @@ module _ (R : CommRing) where
   more₂-less₃ x a b c d e f g h i j = less₁ R (less₁ R (less₁ R (more₁ R (more₁ R x a b) c d) e f) g h) i j
 
 pub record Below-2 (p x a b c d : ℕ) : Type 0 where
+  pub small : p < 2147483648
   pub x-below : x < p
   pub a-below : a < p
   pub b-below : b < p
@@ -41,6 +42,7 @@ pub record Below-2 (p x a b c d : ℕ) : Type 0 where
   pub d-below : d < p
 
 pub record Below-3 (p x a b c d e f : ℕ) : Type 0 where
+  pub small : p < 2147483648
   pub x-below : x < p
   pub a-below : a < p
   pub b-below : b < p
@@ -50,6 +52,7 @@ pub record Below-3 (p x a b c d e f : ℕ) : Type 0 where
   pub f-below : f < p
 
 pub record Below-4 (p x a b c d e f g h : ℕ) : Type 0 where
+  pub small : p < 2147483648
   pub x-below : x < p
   pub a-below : a < p
   pub b-below : b < p
@@ -61,6 +64,7 @@ pub record Below-4 (p x a b c d e f g h : ℕ) : Type 0 where
   pub h-below : h < p
 
 pub record Below-5 (p x a b c d e f g h i j : ℕ) : Type 0 where
+  pub small : p < 2147483648
   pub x-below : x < p
   pub a-below : a < p
   pub b-below : b < p
@@ -74,6 +78,7 @@ pub record Below-5 (p x a b c d e f g h i j : ℕ) : Type 0 where
   pub j-below : j < p
 
 pub record Below-6 (p x a b c d e f g h i j k l : ℕ) : Type 0 where
+  pub small : p < 2147483648
   pub x-below : x < p
   pub a-below : a < p
   pub b-below : b < p

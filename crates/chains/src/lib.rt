@@ -1,4 +1,4 @@
-// Longer sums of products modulo p, in which products are added and taken away in turn, reduced once.
+// Longer sums of products modulo p, in which products are added and taken away in turn. Of five or six products the first three are reduced before the others come in.
 ghost use Rattle.field.specs.Residue.{Z, el};
 ghost use Rattle.field.specs.Contract.{Is};
 ghost use Rattle.chains.specs.Contract.{more₂, more₁-less₁, more₂-less₁, more₁-less₂, more₃-less₁, more₃-less₃, more₂-less₃, Below-2, Below-3, Below-4, Below-5, Below-6};
@@ -85,10 +85,10 @@ pub fn more3_less3(
 {
     let s1 = barrett::add_product(p, x as u64, a, b);
     let s2 = barrett::add_product(p, s1, c, d);
-    let s3 = barrett::add_product(p, s2, e, f);
-    let s4 = barrett::sub_product(p, s3, g, h);
-    let s5 = barrett::sub_product(p, s4, i, j);
-    barrett::reduce(p, barrett::sub_product(p, s5, k, l))
+    let h0 = barrett::reduce(p, barrett::add_product(p, s2, e, f));
+    let s3 = barrett::sub_product(p, h0 as u64, g, h);
+    let s4 = barrett::sub_product(p, s3, i, j);
+    barrett::reduce(p, barrett::sub_product(p, s4, k, l))
 }
 
 // x + a·b + c·d − e·f − g·h − i·j
@@ -111,7 +111,7 @@ pub fn more2_less3(
 {
     let s1 = barrett::add_product(p, x as u64, a, b);
     let s2 = barrett::add_product(p, s1, c, d);
-    let s3 = barrett::sub_product(p, s2, e, f);
-    let s4 = barrett::sub_product(p, s3, g, h);
-    barrett::reduce(p, barrett::sub_product(p, s4, i, j))
+    let h0 = barrett::reduce(p, barrett::sub_product(p, s2, e, f));
+    let s3 = barrett::sub_product(p, h0 as u64, g, h);
+    barrett::reduce(p, barrett::sub_product(p, s3, i, j))
 }

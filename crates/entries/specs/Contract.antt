@@ -1,6 +1,6 @@
 -- What the functions on the matrix of two divisors require and ensure.
 --   lower-of y3            the coefficients of y³ at the pole numbers 6 to 12
---   NumbersBelow p n, LowerBelow p o, PartsBelow p w       the numbers are below p
+--   NumbersBelow p n, LowerBelow p o, PartsBelow p w       the numbers are below p, and p is below 2^31
 --   ShiftAsked, Shifted    shifted: x·v modulo the ideal of m
 --   Difference             difference: the column with the entries a − b
 --   SumMatrixAsked, SumMatrix      sum_matrix: the matrix of a sum
@@ -25,6 +25,7 @@ abbrev pub lower-of : List ℕ → Lower
 lower-of y3 = record { n6 = getD y3 6 0; n7 = getD y3 7 0; n8 = getD y3 8 0; n9 = getD y3 9 0; n10 = getD y3 10 0; n11 = getD y3 11 0; n12 = getD y3 12 0 }
 
 pub record NumbersBelow (p : ℕ) (n : Divisor) : Type 0 where
+  pub small : p < 2147483648
   pub n0 : n .n0 < p
   pub n1 : n .n1 < p
   pub n2 : n .n2 < p
@@ -36,6 +37,7 @@ pub record NumbersBelow (p : ℕ) (n : Divisor) : Type 0 where
   pub n8 : n .n8 < p
 
 pub record LowerBelow (p : ℕ) (o : Lower) : Type 0 where
+  pub small : p < 2147483648
   pub n6 : o .n6 < p
   pub n7 : o .n7 < p
   pub n8 : o .n8 < p

@@ -122,6 +122,7 @@ pub record BodyOf (p : ℕ) (o : Lower) (u : Tail) (v : Tail) (a : ℕ) (h : Hea
   pub g0-is : el p (r .g0) ≡ more₂-less₃ (Z p) (el p (v .t1)) (el p (r .f1)) (el p (h .e3)) (el p (o .n6)) (el p a) (el p (h .l)) (Z p .add (el p (r .f0)) (el p (u .t1))) (el p (h .g1)) (el p (u .t3)) (el p (o .n9)) (cross₂ (Z p) (el p (h .f2)) (el p (h .q)) (el p (r .g2)) (el p a))
 
 pub record LastAsked (p : ℕ) (h : Head) (b : Body) (i : ℕ) : Type 0 where
+  pub small : p < 2147483648
   pub h-below : HeadBelow p h
   pub b-below : BodyBelow p b
   pub i-below : i < p

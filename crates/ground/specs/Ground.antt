@@ -1,6 +1,6 @@
 -- The ground of a curve by value: what holds of it, and what its maker requires and ensures.
 --   Unit-of p k C          k is the inverse of −a0
---   Grounded g             g is the ground of some curve with a0 ≢ 0 over the field of p elements
+--   Grounded g             g is the ground of some curve with a0 ≢ 0 over the field of p elements, p below 2^31
 --   AtGround g X           X holds of p and of every curve of which g is the ground
 --   GroundAsked e          the coefficients are below p, and a0 is 1
 --   GroundOf e g           of: g is the ground of the curve e
@@ -19,6 +19,7 @@ pub record Unit-of (p k : ℕ) (C : Curve (Z p)) : Type 0 where
   pub inverse : Z p .mul (el p k) (Z p .neg (C .a0)) ≡ Z p .one
 
 pub record Grounded (g : Ground) : Type 0 where
+  pub small : g .p < 2147483648
   pub ready : Ready (g .p) (g .cube)
   pub unit-is : Unit-of (g .p) (g .unit) (ready .setting .curve)
 

@@ -1,5 +1,5 @@
 -- What the functions on matrices require and ensure. The columns of a matrix are a, b, c, d, e.
---   TwoColumns p a b, FourColumns p v a b c        the entries of the columns are below p
+--   TwoColumns p a b, FourColumns p v a b c        the entries of the columns are below p, and p is below 2^31
 --   Crossed p a b r        crossed: r is the vector product
 --   Coordinates p v a b c r        coordinates: the scalar products of v with a, b and c
 --   Combines R a b c s z d z·d = s0·a + s1·b + s2·c
@@ -19,10 +19,12 @@ use Rattle.matrix.specs.declared.Column.{Column}
 use Rattle.matrix.specs.Matrix.{entry, column-at, column, rows-of, ColumnBelow, residues-of}
 
 pub record TwoColumns (p : ℕ) (a b : Column) : Type 0 where
+  pub small : p < 2147483648
   pub a-below : ColumnBelow p a
   pub b-below : ColumnBelow p b
 
 pub record FourColumns (p : ℕ) (v a b c : Column) : Type 0 where
+  pub small : p < 2147483648
   pub v-below : ColumnBelow p v
   pub a-below : ColumnBelow p a
   pub b-below : ColumnBelow p b

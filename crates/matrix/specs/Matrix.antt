@@ -4,7 +4,7 @@
 --   column-at m j          the j-th column
 --   rows-of a b c d e      the matrix with these columns
 --   ColumnBelow p v        the entries of a column are below p
---   MatrixBelow p m        the entries of a matrix are below p
+--   MatrixBelow p m        the entries of a matrix are below p, and p is below 2^31
 --   residues-of p v        a column as residues modulo p: 0, 1, 2 for its entries in the rows of 1, of x and of y
 use mathlib.Core.List.{List, [], _∷_}
 use Prim.Native.Nat.{ℕ, zero, suc, _<_}
@@ -32,6 +32,7 @@ pub record ColumnBelow (p : ℕ) (v : Column) : Type 0 where
   pub y : v .y < p
 
 pub record MatrixBelow (p : ℕ) (m : List (List ℕ)) : Type 0 where
+  pub small : p < 2147483648
   pub below : (j : ℕ) → j < 5 → ColumnBelow p (column-at m j)
 
 abbrev pub residues-of : (p : ℕ) → Column → ℕ → Z p .Car

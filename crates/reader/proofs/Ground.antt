@@ -6,6 +6,7 @@
 use mathlib.Core.Path.{_≡_, refl, sym, ap, subst}
 use mathlib.Core.List.{List}
 use Prim.Native.Nat.{ℕ, _<_}
+use native.Mathlib.Omega.{arith}
 use Rattle.field.specs.Residue.{Z}
 use Rattle.curve.specs.Curve.{Curve}
 use Rattle.multiplication.specs.Contract.{Cube}
@@ -14,7 +15,7 @@ use Rattle.equation.specs.declared.Equation.{Equation}
 use Rattle.ground.specs.declared.Ground.{Ground}
 use Rattle.ground.specs.Ground.{Unit-of, Grounded, AtGround, GroundAsked, GroundOf}
 use Rattle.record.specs.Cause.{FirstCause, Passes}
-use Rattle.record.specs.Curve.{modulus, equation, curve-stages, AcceptedCurve, accepted-prime, accepted-below, setting-of}
+use Rattle.record.specs.Curve.{modulus, equation, curve-stages, AcceptedCurve, accepted-prime, accepted-limit, accepted-below, setting-of}
 use Rattle.checks.specs.Contract.{equation-value}
 use Rattle.reader.specs.Reading.{CurveRead, On}
 use Rattle.reader.specs.declared.CurveAnswer.{CurveAnswer}
@@ -46,6 +47,7 @@ module _ {c : List ℕ} {g : Ground} (o : On c g) where
   abbrev pub grounded-at : Grounded (ground-at c g)
   grounded-at =
       record {
+        small = omega (arith, accepted-limit c (o .accepted));
         ready =
             record {
               setting = setting-of c (o .accepted);

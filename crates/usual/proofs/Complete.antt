@@ -124,12 +124,13 @@ module _ {p : ℕ} {o : Lower} {n : Divisor} {s t : Column} {i : ℕ} {u v : Tai
               ∙ (λ j. cross₂ R (el p (b .f0)) (el p (h .g1)) (el p (b .g0)) (sym r0-difference j));
         }
 
-  pub complete : CompleteOf p o n s t i (made h b l)
-  complete =
+  pub complete : p < 2147483648 → CompleteOf p o n s t i (made h b l)
+  complete small =
       record {
         shaped =
             numbers-shaped refl
             (record {
+              small = small;
               n0 = B .below .f0;
               n1 = B .below .f1;
               n2 = H .below .f2;

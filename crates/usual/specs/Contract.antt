@@ -2,6 +2,7 @@
 --   IsLower p C o          o has the coefficients of y³ on the curve C
 --   us-of, vs-of           the numbers of u and v, for the last two columns s and t of the row-reduced matrix
 --   CompleteAsked, CompleteOf      completed: the divisor of the formulas
+--   MatrixAsked, MatrixOf  matrix_of: the matrix of a double where the numbers are the same, and else that of a sum
 --   SolveAsked             solved: what it requires
 --   Pivoted p m            the determinant of the first three columns of m is not zero, and s and t are the last two of its row-reduced form
 --   Solved p o n m r       … and r is the divisor of the formulas, with f2 not zero
@@ -21,12 +22,12 @@ use Rattle.columns.specs.Pivots.{determinant}
 use Rattle.type61.proofs.Form.{less}
 use Rattle.type61_numbers.proofs.Equations.{Equations, F2-of, c-of}
 use Rattle.basis.specs.declared.Divisor.{Divisor}
-use Rattle.basis.specs.Divisor.{residues, Shaped}
+use Rattle.basis.specs.Divisor.{numbers-of, residues, Shaped}
 use Rattle.matrix.specs.declared.Column.{Column}
 use Rattle.matrix.specs.Matrix.{ColumnBelow, MatrixBelow, residues-of}
 use Rattle.matrix.specs.Contract.{Combines, column-residues}
 use Rattle.entries.specs.declared.Lower.{Lower}
-use Rattle.entries.specs.Contract.{NumbersBelow, LowerBelow}
+use Rattle.entries.specs.Contract.{NumbersBelow, LowerBelow, SumMatrix, DoubleMatrix}
 use Rattle.usual.specs.declared.Tried.{Tried}
 
 pub record IsLower (p : ℕ) (C : Curve (Z p)) (o : Lower) : Type 0 where
@@ -57,6 +58,14 @@ pub record CompleteOf (p : ℕ) (o : Lower) (n : Divisor) (s t : Column) (i : �
       → residues p r 2 ≡ F2-of (ops (Z p)) (C .a0) (c-of C) (us-of p n (residues-of p s)) (vs-of p n (residues-of p t))
   pub equations : (C : Curve (Z p)) → IsLower p C o → Z p .mul (residues p r 2) (el p i) ≡ Z p .one
       → Equations C (us-of p n (residues-of p s)) (vs-of p n (residues-of p t)) (residues p r)
+
+pub record MatrixAsked (p : ℕ) (o : Lower) (a b : Divisor) : Type 0 where
+  pub o-below : LowerBelow p o
+  pub a-below : NumbersBelow p a
+  pub b-below : NumbersBelow p b
+
+abbrev pub MatrixOf : (p : ℕ) (o : Lower) (a b : Divisor) (r : List (List ℕ)) → Type 0
+MatrixOf p o a b r = ((numbers-of a ≡ numbers-of b) × DoubleMatrix p o a r) ⊎ ((¬ (numbers-of a ≡ numbers-of b)) × SumMatrix p a b r)
 
 pub record SolveAsked (p : ℕ) (o : Lower) (n : Divisor) (m : List (List ℕ)) : Type 0 where
   pub prime : Prime p

@@ -8,7 +8,7 @@ ghost use mathlib.Core.Path.{_≡_};
 ghost use Rattle.algebra.specs.Answers.{Answers};
 ghost use Rattle.basis.specs.Divisor.{numbers-of};
 ghost use Rattle.usual.specs.Trial.{TriedAsked, TriedOf};
-ghost use Rattle.usual.specs.Contract.{CompleteAsked, CompleteOf, SolveAsked, SolvedOf};
+ghost use Rattle.usual.specs.Contract.{CompleteAsked, CompleteOf, MatrixAsked, MatrixOf, SolveAsked, SolvedOf};
 
 // Whether the formulas serve, and the sum if they do.
 pub struct Tried {
@@ -105,16 +105,23 @@ fn same_numbers(a: Divisor, b: Divisor) -> bool
     true
 }
 
+// The matrix of two divisors: that of a double, where their numbers are the same, and else that of a sum.
+fn matrix_of(p: u32, o: Lower, a: Divisor, b: Divisor) -> [[u32; 5]; 3]
+    requires { ⌜ MatrixAsked p o a b ⌝ }
+    ensures { λ r. ⌜ MatrixOf p o a b r ⌝ }
+{
+    if same_numbers(a, b) {
+        return entries::double_matrix(p, o, a);
+    }
+    entries::sum_matrix(p, a, b)
+}
+
 // Whether the formulas serve for the sum of two divisors of kind 31, and the sum if they do.
 pub fn sum_tried(g: Ground, a: Divisor, b: Divisor) -> Tried
     requires { ⌜ TriedAsked g a b ⌝ }
     ensures { λ r. ⌜ TriedOf g a b r ⌝ }
 {
     let o = entries::lower_of(&g.cube);
-    if same_numbers(a, b) {
-        let m = entries::double_matrix(g.p, o, a);
-        return solved(g.p, o, a, m);
-    }
-    let m = entries::sum_matrix(g.p, a, b);
+    let m = matrix_of(g.p, o, a, b);
     solved(g.p, o, a, m)
 }

@@ -1,17 +1,22 @@
--- `barrett::more1` meets its contract: the sum is reduced.
+-- `barrett::more1` meets its contract: x and the product are reduced.
 use borrow.Author.Needs.{needs}
-use Rattle.barrett.proofs.Sums.{reduced}
+use native.Mathlib.Omega.{arith}
+use Rattle.field.proofs.Products.{product-fits}
+use Rattle.barrett.proofs.Sums.{one-fits, more-one, reduced-one}
 use Rattle.barrett.proofs.more1.Statement.{statement}
 use Rattle.barrett.proofs.more1.Tie as tie
 
-add-product-requires : tie.Need-add-product-requires
-add-product-requires c κs = search needs
+mul-reduce : tie.Need-mul-reduce
+mul-reduce c = product-fits _ _ (omega arith) (omega arith)
+
+add-reduce : tie.Need-add-reduce
+add-reduce c = one-fits _ _ _ (omega arith) (omega arith) (omega arith)
 
 reduce-requires : tie.Need-reduce-requires
 reduce-requires c κs = search needs
 
 returns : tie.Need-returns
-returns c = reduced (c .reduce .ensures) (c .before .add-product .ensures)
+returns c = reduced-one _ (c .reduce .ensures) (more-one _ _ _ _)
 
 pub more1-spec : {M : Type 1} → statement M
-more1-spec = tie.close (tie.spec add-product-requires reduce-requires returns)
+more1-spec = tie.close (tie.spec mul-reduce add-reduce reduce-requires returns)

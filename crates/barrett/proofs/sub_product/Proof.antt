@@ -1,31 +1,24 @@
--- `barrett::sub_product` meets its contract: where x < a·b, p·2^32 is added.
-use native.Mathlib.Omega.{arith}
+-- `barrett::sub_product` meets its contract: p² less the product is one term more.
 use borrow.Author.Needs.{needs}
-use Rattle.field.proofs.Products.{product-fits}
-use Rattle.barrett.proofs.Sums.{product-below, taken}
+use native.Mathlib.Omega.{arith}
+use Rattle.barrett.proofs.Sums.{product-most, square-most, product-square, taken}
 use Rattle.barrett.proofs.sub_product.Statement.{statement}
 use Rattle.barrett.proofs.sub_product.Tie as tie
 
-mul-m : tie.Need-mul-m
-mul-m c = product-fits _ _ (omega arith) (omega arith)
-
 mul-result : tie.Need-mul-result
-mul-result c = search needs
+mul-result c = omega (arith, square-most _ (c .pre .small))
+
+mul-result-2 : tie.Need-mul-result-2
+mul-result-2 c = omega (arith, product-most _ _ _ (c .pre .small) (c .pre .below-1) (c .pre .below-2))
 
 sub-result : tie.Need-sub-result
-sub-result c = omega (arith, product-below _ _ _ (omega arith) (c .before .pre .below-1) (c .before .pre .below-2))
+sub-result c = omega (arith, product-square _ _ _ (c .pre .below-1) (c .pre .below-2))
 
 add-result : tie.Need-add-result
-add-result c = omega arith
+add-result c = omega (arith, square-most _ (c .pre .small), c .pre .room)
 
 returns : tie.Need-returns
-returns c =
-    taken _ _ _ _ _ 4294967296
-    (omega arith)
-    (omega (arith, product-below _ _ _ (omega arith) (c .before .pre .below-1) (c .before .pre .below-2)))
-
-returns-2 : tie.Need-returns-2
-returns-2 c = taken _ _ _ _ _ 0 (omega arith) (omega arith)
+returns c = taken _ _ _ _ (c .pre .small) (c .pre .below-1) (c .pre .below-2)
 
 pub sub-product-spec : {M : Type 1} → statement M
-sub-product-spec = tie.close (tie.spec mul-m mul-result sub-result add-result returns returns-2)
+sub-product-spec = tie.close (tie.spec mul-result mul-result-2 sub-result add-result returns)

@@ -1,4 +1,4 @@
--- `chains::more1_less1` meets its contract: each product is added to the sum before it or taken from it, and the last sum is reduced.
+-- `chains::more1_less1` meets its contract: each product is added to the sum before it or taken from it, and the sum is reduced.
 use borrow.Author.Needs.{needs}
 use Rattle.barrett.proofs.Sums.{reduced, less-after}
 use Rattle.chains.proofs.more1_less1.Statement.{statement}

@@ -1,6 +1,6 @@
--- `chains::more2_less3` meets its contract: each product is added to the sum before it or taken from it, and the last sum is reduced.
+-- `chains::more2_less3` meets its contract: each product is added to the sum before it or taken from it, and the sum is reduced.
 use borrow.Author.Needs.{needs}
-use Rattle.barrett.proofs.Sums.{reduced, more-after, less-after}
+use Rattle.barrett.proofs.Sums.{reduced, restart, more-after, less-after}
 use Rattle.chains.proofs.more2_less3.Statement.{statement}
 use Rattle.chains.proofs.more2_less3.Tie as tie
 
@@ -13,17 +13,23 @@ add-product-requires-2 c κs = search needs
 sub-product-requires : tie.Need-sub-product-requires
 sub-product-requires c κs = search needs
 
+reduce-requires : tie.Need-reduce-requires
+reduce-requires c κs = search needs
+
 sub-product-requires-2 : tie.Need-sub-product-requires-2
 sub-product-requires-2 c κs = search needs
 
 sub-product-requires-3 : tie.Need-sub-product-requires-3
 sub-product-requires-3 c κs = search needs
 
-reduce-requires : tie.Need-reduce-requires
-reduce-requires c κs = search needs
+reduce-requires-2 : tie.Need-reduce-requires-2
+reduce-requires-2 c κs = search needs
+
+cast-sub-product : tie.Need-cast-sub-product
+cast-sub-product c = search needs
 
 returns : tie.Need-returns
-returns c = reduced (c .reduce .ensures) (less-after _ _ (less-after _ _ (less-after _ _ (more-after _ _ (c .before .before .before .before .before .add-product .ensures) (c .before .before .before .before .add-product2 .ensures)) (c .before .before .before .sub-product .ensures)) (c .before .before .sub-product2 .ensures)) (c .before .sub-product3 .ensures))
+returns c = reduced (c .reduce2 .ensures) (less-after _ _ (less-after _ _ (restart (reduced (c .before .before .before .reduce .ensures) (less-after _ _ (more-after _ _ (c .before .before .before .before .before .before .add-product .ensures) (c .before .before .before .before .before .add-product2 .ensures)) (c .before .before .before .before .sub-product .ensures)))) (c .before .before .sub-product2 .ensures)) (c .before .sub-product3 .ensures))
 
 pub more2-less3-spec : {M : Type 1} → statement M
-more2-less3-spec = tie.close (tie.spec add-product-requires add-product-requires-2 sub-product-requires sub-product-requires-2 sub-product-requires-3 reduce-requires returns)
+more2-less3-spec = tie.close (tie.spec add-product-requires add-product-requires-2 sub-product-requires reduce-requires cast-sub-product sub-product-requires-2 sub-product-requires-3 reduce-requires-2 returns)

@@ -41,7 +41,7 @@ add-requires-3 : tie.Need-add-requires-3
 add-requires-3 c κs = search needs
 
 more2-less3-requires : tie.Need-more2-less3-requires
-more2-less3-requires c κs = let asked = c .before .before .before .before .before .before .before .before .before .before .before .pre in record { x-below = asked .v-below .t1; a-below = c .before .before .before .before .before .add2 .ensures .below; b-below = asked .h-below .e3; c-below = asked .o-below .n6; d-below = asked .a-below; e-below = asked .h-below .l; f-below = c .add3 .ensures .below; g-below = asked .h-below .g1; h-below = asked .u-below .t3; i-below = asked .o-below .n9; j-below = c .before .cross .ensures .below }
+more2-less3-requires c κs = let asked = c .before .before .before .before .before .before .before .before .before .before .before .pre in record { small = asked .o-below .small; x-below = asked .v-below .t1; a-below = c .before .before .before .before .before .add2 .ensures .below; b-below = asked .h-below .e3; c-below = asked .o-below .n6; d-below = asked .a-below; e-below = asked .h-below .l; f-below = c .add3 .ensures .below; g-below = asked .h-below .g1; h-below = asked .u-below .t3; i-below = asked .o-below .n9; j-below = c .before .cross .ensures .below }
 
 returns : tie.Need-returns
 returns c =

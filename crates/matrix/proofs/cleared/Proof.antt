@@ -17,24 +17,24 @@ column-of-requires-3 c κs = search needs
 crossed-requires : tie.Need-crossed-requires
 crossed-requires c κs =
     let m = c .before .before .before .pre in
-    record { a-below = below-at m 1 (omega arith) (c .before .column-of2 .ensures); b-below = below-at m 2 (omega arith) (c .column-of3 .ensures) }
+    record { small = m .small; a-below = below-at m 1 (omega arith) (c .before .column-of2 .ensures); b-below = below-at m 2 (omega arith) (c .column-of3 .ensures) }
 
 crossed-requires-2 : tie.Need-crossed-requires-2
 crossed-requires-2 c κs =
     let cols = c .before in
     let m = cols .before .before .before .pre in
-    record { a-below = below-at m 2 (omega arith) (cols .column-of3 .ensures); b-below = below-at m 0 (omega arith) (cols .before .before .column-of .ensures) }
+    record { small = m .small; a-below = below-at m 2 (omega arith) (cols .column-of3 .ensures); b-below = below-at m 0 (omega arith) (cols .before .before .column-of .ensures) }
 
 crossed-requires-3 : tie.Need-crossed-requires-3
 crossed-requires-3 c κs =
     let cols = c .before .before in
     let m = cols .before .before .before .pre in
-    record { a-below = below-at m 0 (omega arith) (cols .before .before .column-of .ensures); b-below = below-at m 1 (omega arith) (cols .before .column-of2 .ensures) }
+    record { small = m .small; a-below = below-at m 0 (omega arith) (cols .before .before .column-of .ensures); b-below = below-at m 1 (omega arith) (cols .before .column-of2 .ensures) }
 
 dotted-requires : tie.Need-dotted-requires
 dotted-requires c κs =
     let cols = c .before .before .before in
-    record { a-below = below-at (cols .before .before .before .pre) 0 (omega arith) (cols .before .before .column-of .ensures); b-below = c .before .before .crossed .ensures .below }
+    record { small = cols .before .before .before .pre .small; a-below = below-at (cols .before .before .before .pre) 0 (omega arith) (cols .before .before .column-of .ensures); b-below = c .before .before .crossed .ensures .below }
 
 column-of-requires-4 : tie.Need-column-of-requires-4
 column-of-requires-4 c κs = search needs
@@ -43,6 +43,7 @@ coordinates-requires : tie.Need-coordinates-requires
 coordinates-requires c κs =
     let ab = c .before .before in
     record {
+      small = ab .before .before .before .before .before .before .pre .small;
       v-below = below-at (ab .before .before .before .before .before .before .pre) 3 (omega arith) (c .column-of4 .ensures);
       a-below = ab .before .before .crossed .ensures .below;
       b-below = ab .before .crossed2 .ensures .below;
@@ -56,6 +57,7 @@ coordinates-requires-2 : tie.Need-coordinates-requires-2
 coordinates-requires-2 c κs =
     let ab = c .before .before .before .before in
     record {
+      small = ab .before .before .before .before .before .before .pre .small;
       v-below = below-at (ab .before .before .before .before .before .before .pre) 4 (omega arith) (c .column-of5 .ensures);
       a-below = ab .before .before .crossed .ensures .below;
       b-below = ab .before .crossed2 .ensures .below;
