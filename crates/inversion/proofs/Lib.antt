@@ -1,2 +1,6 @@
--- What a turn of Euclid's algorithm keeps, and what its end gives.
-pub mod Euclid
+-- What the functions of the inverse keep and return.
+pub mod Negative
+pub mod Quotient
+pub mod Zeros
+pub mod Binary
+pub mod Finish

@@ -1,90 +1,110 @@
--- `inversion::inverse` meets its contract. The loop's invariant is State of proofs/Euclid, and its measure r1; after the first division of a
--- turn Middle holds.
+-- `inversion::inverse` meets its contract. The loop's invariant is State of proofs/Binary, and its measure x + y.
+use mathlib.Core.Bool.{not, Bool·beq}
+use Prim.Native.Nat.{_+_}
 use native.Mathlib.Omega.{arith}
-use Rattle.inversion.proofs.Euclid.{State, state-start, state-middle, middle-state, middle-bound, state-bound, end-zero, end-first, end-second}
+use lib.Count.{trailingZeros, trailing-le}
+use lib.Dec.{ltb}
+use Rattle.inversion.proofs.Zeros.{trailing, part-below}
+use Rattle.inversion.proofs.Binary.{State, state-start, state-bits, state-sum, Turn, turn}
+use Rattle.inversion.proofs.Finish.{prime-odd, end-most, finish, small-inverse}
 use Rattle.inversion.proofs.inverse.Statement.{statement}
 use Rattle.inversion.proofs.inverse.Tie as tie
+use Rattle.inversion.proofs.inverse.Reads as reads
+use Rattle.inversion.proofs.inverse.Lts as lts
+use Rattle.inversion.proofs.ended.Reads as ended-reads
+use Rattle.inversion.proofs.pick.Reads as pick-reads
+use Rattle.std.proofs.num.wrapping_sub_u64.Reads as wrapping-sub-u64-reads
 
 abbrev Inv-loop : tie.InvT-loop
-Inv-loop p a r0₀ r1₀ t0₀ t1₀ r0 r1 t0 t1 = State p a r0 r1 t0 t1
+Inv-loop p a w k₀ x₀ y₀ cx₀ cy₀ negative₀ k x y cx cy negative = State p a x y cx cy k negative
 
 abbrev μ-loop : tie.MeasureT-loop
-μ-loop p a r0₀ r1₀ t0₀ t1₀ r0 r1 t0 t1 = r1
+μ-loop p a w k₀ x₀ y₀ cx₀ cy₀ negative₀ k x y cx cy negative = x + y
 
 returns : tie.Need-returns Inv-loop μ-loop
-returns c = end-zero _ _ (c .before .pre .prime) (c .if1 .taken)
+returns c = small-inverse _ _ (c .before .pre .prime) (omega arith)
+
+cast-y : tie.Need-cast-y Inv-loop μ-loop
+cast-y c = omega (arith, trailing-le 64 (c .before .args .a))
+
+shr-y : tie.Need-shr-y Inv-loop μ-loop
+shr-y c = part-below _ _ (trailing 64 _ (omega arith) (omega arith)) (omega arith)
 
 loop-holds : tie.Need-loop-holds Inv-loop μ-loop
-loop-holds c = state-start _ _ (omega arith) (omega arith)
+loop-holds c = state-start _ _ _ (trailing 64 _ (omega arith) (omega arith)) (prime-odd _ (c .before .pre .prime) (omega arith)) (omega arith) (omega arith)
 
-div-q : tie.Need-div-q Inv-loop μ-loop
-div-q c = omega arith
+wrapping-sub-u64-requires : tie.Need-wrapping-sub-u64-requires Inv-loop μ-loop
+wrapping-sub-u64-requires c κs = tt
 
-rem-r0 : tie.Need-rem-r0 Inv-loop μ-loop
-rem-r0 c = omega arith
+wrapping-sub-u64-requires-2 : tie.Need-wrapping-sub-u64-requires-2 Inv-loop μ-loop
+wrapping-sub-u64-requires-2 c κs = tt
 
-mul-t0 : tie.Need-mul-t0 Inv-loop μ-loop
-mul-t0 c =
-    let h = c .before .before .before .pre .prime in
-    let m = state-middle h (c .before .loop .inv) (omega arith) in
-    omega (arith, middle-bound m)
+pick-requires : tie.Need-pick-requires Inv-loop μ-loop
+pick-requires c κs = tt
 
-add-t0 : tie.Need-add-t0 Inv-loop μ-loop
-add-t0 c =
-    let h = c .before .before .before .pre .prime in
-    let m = state-middle h (c .before .loop .inv) (omega arith) in
-    omega (arith, middle-bound m)
+pick-requires-2 : tie.Need-pick-requires-2 Inv-loop μ-loop
+pick-requires-2 c κs = tt
 
-sub-result : tie.Need-sub-result Inv-loop μ-loop
-sub-result c =
-    let h = c .before .before .before .before .pre .prime in
-    middle-bound (state-middle h (c .before .before .loop .inv) (omega arith))
+pick-requires-3 : tie.Need-pick-requires-3 Inv-loop μ-loop
+pick-requires-3 c κs = tt
+
+abbrev After : Type 0
+After =
+    lts.After-pick3 (
+      wrapping-sub-u64-reads.Asked,
+      wrapping-sub-u64-reads.Learnt,
+      pick-reads.Asked,
+      pick-reads.Learnt,
+      ended-reads.Asked,
+      ended-reads.Learnt,
+    ) reads.Pre reads.Post Inv-loop μ-loop
+
+-- what the calls of a turn give
+turned : (c : After) → Turn (c .before .before .before .before .before .before .before .before .args .p) (c .before .before .before .before .before .before .before .before .args .a) (c .before .before .before .before .before .before .loop .x) (c .before .before .before .before .before .before .loop .y) (c .before .before .before .before .before .before .loop .cx) (c .before .before .before .before .before .before .loop .cy) (c .before .before .before .before .before .before .loop .k) (trailingZeros 64 (c .before .before .before .wrapping-sub-u642 .result))
+    (c .before .before .pick .result) (c .before .pick2 .result) (c .pick3 .result) (not (Bool·beq (c .before .before .before .before .before .before .loop .negative) (ltb (c .before .before .before .before .before .before .loop .x) (c .before .before .before .before .before .before .loop .y))))
+turned c =
+    turn (c .before .before .before .before .before .before .before .before .pre .prime) (omega arith) (c .before .before .before .before .before .before .loop .inv) (λ e. omega arith) _ _ _ _ _ (omega arith) (omega arith) (c .before .before .before .before .wrapping-sub-u64 .ensures) (c .before .before .before .wrapping-sub-u642 .ensures)
+    (c .before .before .pick .ensures) (c .before .pick2 .ensures) (c .pick3 .ensures)
+
+add-cx : tie.Need-add-cx Inv-loop μ-loop
+add-cx c = omega (arith, state-sum (c .before .before .before .before .before .before .loop .inv))
+
+cast-cy : tie.Need-cast-cy Inv-loop μ-loop
+cast-cy c = omega (arith, turned c .zeros)
+
+shl-cy : tie.Need-shl-cy Inv-loop μ-loop
+shl-cy c = turned c .zeros
+
+cast-x : tie.Need-cast-x Inv-loop μ-loop
+cast-x c = omega (arith, turned c .zeros)
+
+shr-x : tie.Need-shr-x Inv-loop μ-loop
+shr-x c = turned c .zeros
+
+add-k : tie.Need-add-k Inv-loop μ-loop
+add-k c = omega (arith, state-bits (turned c .state))
+
+loop-less : tie.Need-loop-less Inv-loop μ-loop
+loop-less c = turned c .less
+
+loop-again : tie.Need-loop-again Inv-loop μ-loop
+loop-again c = turned c .state
+
+ended-requires : tie.Need-ended-requires Inv-loop μ-loop
+ended-requires c κs =
+    record {
+      odd = record { below = omega arith; odd = prime-odd _ (c .before .before .before .pre .prime) (omega arith) };
+      most = omega (arith, state-sum (c .before .loop .inv));
+      bits = state-bits (c .before .loop .inv);
+    }
+
+cast-result : tie.Need-cast-result Inv-loop μ-loop
+cast-result c = omega (arith, end-most (c .ended .ensures))
 
 returns-2 : tie.Need-returns-2 Inv-loop μ-loop
 returns-2 c =
     let h = c .before .before .before .before .pre .prime in
-    let m = state-middle h (c .before .before .loop .inv) (omega arith) in
-    end-first h (omega arith) (omega arith) m (c .if2 .taken)
-
-div-s : tie.Need-div-s Inv-loop μ-loop
-div-s c =
-    let h = c .before .before .before .before .pre .prime in
-    state-middle h (c .before .before .loop .inv) (omega arith) .pos
-
-rem-r1 : tie.Need-rem-r1 Inv-loop μ-loop
-rem-r1 c =
-    let h = c .before .before .before .before .pre .prime in
-    state-middle h (c .before .before .loop .inv) (omega arith) .pos
-
-mul-t1 : tie.Need-mul-t1 Inv-loop μ-loop
-mul-t1 c =
-    let h = c .before .before .before .before .pre .prime in
-    let m = state-middle h (c .before .before .loop .inv) (omega arith) in
-    omega (arith, state-bound (middle-state h m (omega arith)))
-
-add-t1 : tie.Need-add-t1 Inv-loop μ-loop
-add-t1 c =
-    let h = c .before .before .before .before .pre .prime in
-    let m = state-middle h (c .before .before .loop .inv) (omega arith) in
-    omega (arith, state-bound (middle-state h m (omega arith)))
-
-loop-less : tie.Need-loop-less Inv-loop μ-loop
-loop-less c =
-    let h = c .before .before .before .before .pre .prime in
-    let m = state-middle h (c .before .before .loop .inv) (omega arith) in
-    let s = middle-state h m (omega arith) in
-    omega arith
-
-loop-again : tie.Need-loop-again Inv-loop μ-loop
-loop-again c =
-    let h = c .before .before .before .before .pre .prime in
-    let m = state-middle h (c .before .before .loop .inv) (omega arith) in
-    middle-state h m (omega arith)
-
-returns-3 : tie.Need-returns-3 Inv-loop μ-loop
-returns-3 c =
-    let h = c .before .before .before .pre .prime in
-    end-second h (omega arith) (omega arith) (c .before .loop .inv) (omega arith)
+    finish h (prime-odd _ h (omega arith)) (omega arith) (omega arith) (c .before .before .loop .inv) (omega arith) (c .ended .ensures)
 
 pub inverse-spec : {M : Type 1} → statement M
 inverse-spec =
@@ -93,17 +113,22 @@ inverse-spec =
     Inv-loop
     μ-loop
     returns
+    cast-y
+    shr-y
     loop-holds
-    div-q
-    rem-r0
-    mul-t0
-    add-t0
-    sub-result
-    returns-2
-    div-s
-    rem-r1
-    mul-t1
-    add-t1
+    wrapping-sub-u64-requires
+    wrapping-sub-u64-requires-2
+    pick-requires
+    pick-requires-2
+    pick-requires-3
+    add-cx
+    cast-cy
+    shl-cy
+    cast-x
+    shr-x
+    add-k
     loop-less
     loop-again
-    returns-3)
+    ended-requires
+    cast-result
+    returns-2)

@@ -1,0 +1,2 @@
+-- What the functions that the inverse is made of require and ensure.
+pub mod Contract
