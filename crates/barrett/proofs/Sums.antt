@@ -6,7 +6,6 @@
 --   reduced                the number below p with the residue of a sum
 --   more-after less-after  what s is may stand for s in s + u·v and s − u·v
 --   less-together          (x − y) − u·v is x − (y + u·v)
---   restart                a number below p is a sum again
 use mathlib.Core.Path.{_≡_, sym, _∙_, ap}
 use Prim.Native.Nat.{ℕ, _+_, _*_, _-_, _<_, _≤_}
 use native.Mathlib.Nat.{mul-le-mul}
@@ -82,7 +81,3 @@ module _ {p : ℕ} where
   pub less-together : {w s t : ℕ} (x y u v : Z p .Car) → Sum p w s (Z p .add x (Z p .neg y)) → Sum p s t (less₁ (Z p) (el p s) u v)
       → Sum p s t (Z p .add x (Z p .neg (Z p .add y (Z p .mul u v))))
   less-together x y u v s t = let e = less-after u v s t in record { more = e .more; is = e .is ∙ together (Z p) x y (Z p .mul u v) }
-
-  -- a number below p is a sum again
-  pub restart : {r : ℕ} {y : Z p .Car} → Is p r y → Sum p r r y
-  restart i = record { more = omega arith; is = i .is }

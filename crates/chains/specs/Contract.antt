@@ -4,9 +4,8 @@
 --   more₂-less₁            x + a·b + c·d − e·f
 --   more₁-less₂            x + a·b − c·d − e·f
 --   more₃-less₁            x + a·b + c·d + e·f − g·h
---   more₃-less₃            x + a·b + c·d + e·f − g·h − i·j − k·l
---   more₂-less₃            x + a·b + c·d − e·f − g·h − i·j
---   Below-2 … Below-6      a number and the factors of so many products are below p, and p is below 2^31
+--   more₂-less₂            x + a·b + c·d − e·f − g·h
+--   Below-2 … Below-4      a number and the factors of so many products are below p, and p is below 2^31
 use Prim.Native.Nat.{ℕ, _<_}
 use Rattle.algebra.specs.Ring.{CommRing}
 use Rattle.barrett.specs.Contract.{more₁, less₁}
@@ -27,11 +26,8 @@ module _ (R : CommRing) where
   abbrev pub more₃-less₁ : R .Car → R .Car → R .Car → R .Car → R .Car → R .Car → R .Car → R .Car → R .Car → R .Car
   more₃-less₁ x a b c d e f g h = less₁ R (more₁ R (more₁ R (more₁ R x a b) c d) e f) g h
 
-  abbrev pub more₃-less₃ : R .Car → R .Car → R .Car → R .Car → R .Car → R .Car → R .Car → R .Car → R .Car → R .Car → R .Car → R .Car → R .Car → R .Car
-  more₃-less₃ x a b c d e f g h i j k l = less₁ R (less₁ R (less₁ R (more₁ R (more₁ R (more₁ R x a b) c d) e f) g h) i j) k l
-
-  abbrev pub more₂-less₃ : R .Car → R .Car → R .Car → R .Car → R .Car → R .Car → R .Car → R .Car → R .Car → R .Car → R .Car → R .Car
-  more₂-less₃ x a b c d e f g h i j = less₁ R (less₁ R (less₁ R (more₁ R (more₁ R x a b) c d) e f) g h) i j
+  abbrev pub more₂-less₂ : R .Car → R .Car → R .Car → R .Car → R .Car → R .Car → R .Car → R .Car → R .Car → R .Car
+  more₂-less₂ x a b c d e f g h = less₁ R (less₁ R (more₁ R (more₁ R x a b) c d) e f) g h
 
 pub record Below-2 (p x a b c d : ℕ) : Type 0 where
   pub small : p < 2147483648
@@ -62,33 +58,3 @@ pub record Below-4 (p x a b c d e f g h : ℕ) : Type 0 where
   pub f-below : f < p
   pub g-below : g < p
   pub h-below : h < p
-
-pub record Below-5 (p x a b c d e f g h i j : ℕ) : Type 0 where
-  pub small : p < 2147483648
-  pub x-below : x < p
-  pub a-below : a < p
-  pub b-below : b < p
-  pub c-below : c < p
-  pub d-below : d < p
-  pub e-below : e < p
-  pub f-below : f < p
-  pub g-below : g < p
-  pub h-below : h < p
-  pub i-below : i < p
-  pub j-below : j < p
-
-pub record Below-6 (p x a b c d e f g h i j k l : ℕ) : Type 0 where
-  pub small : p < 2147483648
-  pub x-below : x < p
-  pub a-below : a < p
-  pub b-below : b < p
-  pub c-below : c < p
-  pub d-below : d < p
-  pub e-below : e < p
-  pub f-below : f < p
-  pub g-below : g < p
-  pub h-below : h < p
-  pub i-below : i < p
-  pub j-below : j < p
-  pub k-below : k < p
-  pub l-below : l < p

@@ -1,7 +1,7 @@
-// Longer sums of products modulo p, in which products are added and taken away in turn. Of five or six products the first three are reduced before the others come in.
+// Longer sums of products modulo p, in which products are added and taken away in turn, reduced once.
 ghost use Rattle.field.specs.Residue.{Z, el};
 ghost use Rattle.field.specs.Contract.{Is};
-ghost use Rattle.chains.specs.Contract.{more₂, more₁-less₁, more₂-less₁, more₁-less₂, more₃-less₁, more₃-less₃, more₂-less₃, Below-2, Below-3, Below-4, Below-5, Below-6};
+ghost use Rattle.chains.specs.Contract.{more₂, more₁-less₁, more₂-less₁, more₁-less₂, more₃-less₁, more₂-less₂, Below-2, Below-3, Below-4};
 
 // x + a·b + c·d
 pub fn more2(p: u32, x: u32, a: u32, b: u32, c: u32, d: u32) -> u32
@@ -63,8 +63,8 @@ pub fn more3_less1(
     barrett::reduce(p, barrett::sub_product(p, s3, g, h))
 }
 
-// x + a·b + c·d + e·f − g·h − i·j − k·l
-pub fn more3_less3(
+// x + a·b + c·d − e·f − g·h
+pub fn more2_less2(
     p: u32,
     x: u32,
     a: u32,
@@ -75,43 +75,12 @@ pub fn more3_less3(
     f: u32,
     g: u32,
     h: u32,
-    i: u32,
-    j: u32,
-    k: u32,
-    l: u32,
 ) -> u32
-    requires { ⌜ Below-6 p x a b c d e f g h i j k l ⌝ }
-    ensures { λ r. ⌜ Is p r (more₃-less₃ (Z p) (el p x) (el p a) (el p b) (el p c) (el p d) (el p e) (el p f) (el p g) (el p h) (el p i) (el p j) (el p k) (el p l)) ⌝ }
+    requires { ⌜ Below-4 p x a b c d e f g h ⌝ }
+    ensures { λ r. ⌜ Is p r (more₂-less₂ (Z p) (el p x) (el p a) (el p b) (el p c) (el p d) (el p e) (el p f) (el p g) (el p h)) ⌝ }
 {
     let s1 = barrett::add_product(p, x as u64, a, b);
     let s2 = barrett::add_product(p, s1, c, d);
-    let h0 = barrett::reduce(p, barrett::add_product(p, s2, e, f));
-    let s3 = barrett::sub_product(p, h0 as u64, g, h);
-    let s4 = barrett::sub_product(p, s3, i, j);
-    barrett::reduce(p, barrett::sub_product(p, s4, k, l))
-}
-
-// x + a·b + c·d − e·f − g·h − i·j
-pub fn more2_less3(
-    p: u32,
-    x: u32,
-    a: u32,
-    b: u32,
-    c: u32,
-    d: u32,
-    e: u32,
-    f: u32,
-    g: u32,
-    h: u32,
-    i: u32,
-    j: u32,
-) -> u32
-    requires { ⌜ Below-5 p x a b c d e f g h i j ⌝ }
-    ensures { λ r. ⌜ Is p r (more₂-less₃ (Z p) (el p x) (el p a) (el p b) (el p c) (el p d) (el p e) (el p f) (el p g) (el p h) (el p i) (el p j)) ⌝ }
-{
-    let s1 = barrett::add_product(p, x as u64, a, b);
-    let s2 = barrett::add_product(p, s1, c, d);
-    let h0 = barrett::reduce(p, barrett::sub_product(p, s2, e, f));
-    let s3 = barrett::sub_product(p, h0 as u64, g, h);
-    barrett::reduce(p, barrett::sub_product(p, s3, i, j))
+    let s3 = barrett::sub_product(p, s2, e, f);
+    barrett::reduce(p, barrett::sub_product(p, s3, g, h))
 }

@@ -12,7 +12,7 @@ use Rattle.algebra.specs.Ring.{CommRing}
 use Rattle.prime.specs.Prime.{Prime}
 use Rattle.field.specs.Residue.{Z, el}
 use Rattle.barrett.specs.Contract.{more₁, less₁, less₃, cross₂}
-use Rattle.chains.specs.Contract.{more₁-less₁, more₂-less₁, more₁-less₂, more₃-less₃, more₂-less₃}
+use Rattle.chains.specs.Contract.{more₁-less₁, more₂-less₁, more₁-less₂, more₂-less₂}
 use Rattle.basis.specs.declared.Divisor.{Divisor}
 use Rattle.matrix.specs.declared.Column.{Column}
 use Rattle.matrix.specs.Matrix.{ColumnBelow}
@@ -118,8 +118,8 @@ pub record BodyOf (p : ℕ) (o : Lower) (u : Tail) (v : Tail) (a : ℕ) (h : Hea
   pub below : BodyBelow p r
   pub g2-is : el p (r .g2) ≡ Z p .mul (el p i) (more₂-less₁ (Z p) (Z p .neg (el p (u .t2))) (el p (h .f2)) (less₁ (Z p) (el p (h .e4)) (el p (o .n11)) (el p (h .q))) (el p a) (Z p .add (el p (h .g1)) (el p (o .n8))) (el p (h .q)) (el p (h .r0)))
   pub f1-is : el p (r .f1) ≡ Z p .add (el p (h .r0)) (el p (r .g2))
-  pub f0-is : el p (r .f0) ≡ more₃-less₃ (Z p) (Z p .add (el p (u .t1)) (Z p .neg (el p (v .t2)))) (el p (h .g1)) (el p (u .t4)) (el p (r .g2)) (el p (h .k2)) (el p (h .l)) (el p (u .t2)) (el p (r .f1)) (el p (h .e4)) (el p (h .f2)) (less₁ (Z p) (el p (h .e3)) (el p (o .n10)) (el p (h .q))) (el p (o .n7)) (el p a)
-  pub g0-is : el p (r .g0) ≡ more₂-less₃ (Z p) (el p (v .t1)) (el p (r .f1)) (el p (h .e3)) (el p (o .n6)) (el p a) (el p (h .l)) (Z p .add (el p (r .f0)) (el p (u .t1))) (el p (h .g1)) (el p (u .t3)) (el p (o .n9)) (cross₂ (Z p) (el p (h .f2)) (el p (h .q)) (el p (r .g2)) (el p a))
+  pub f0-is : el p (r .f0) ≡ more₁-less₁ (Z p) (more₂-less₂ (Z p) (Z p .add (el p (u .t1)) (Z p .neg (el p (v .t2)))) (el p (h .g1)) (el p (u .t4)) (el p (h .l)) (el p (u .t2)) (el p (h .f2)) (less₁ (Z p) (el p (h .e3)) (el p (o .n10)) (el p (h .q))) (el p (o .n7)) (el p a)) (el p (r .g2)) (el p (h .k2)) (el p (r .f1)) (el p (h .e4))
+  pub g0-is : el p (r .g0) ≡ less₁ (Z p) (more₂-less₂ (Z p) (el p (v .t1)) (el p (r .f1)) (el p (h .e3)) (el p (o .n6)) (el p a) (el p (h .g1)) (el p (u .t3)) (el p (o .n9)) (cross₂ (Z p) (el p (h .f2)) (el p (h .q)) (el p (r .g2)) (el p a))) (el p (h .l)) (Z p .add (el p (r .f0)) (el p (u .t1)))
 
 pub record LastAsked (p : ℕ) (h : Head) (b : Body) (i : ℕ) : Type 0 where
   pub small : p < 2147483648

@@ -125,25 +125,12 @@ pub fn body_of(p: u32, o: Lower, u: Tail, v: Tail, a: u32, h: Head, i: u32) -> B
     let f1 = field::add(p, h.r0, g2);
     let k1 = barrett::less1(p, h.e3, o.n10, h.q);
     let w3 = field::sub(p, u.t1, v.t2);
-    let f0 = chains::more3_less3(
-        p,
-        w3,
-        h.g1,
-        u.t4,
-        g2,
-        h.k2,
-        h.l,
-        u.t2,
-        f1,
-        h.e4,
-        h.f2,
-        k1,
-        o.n7,
-        a,
-    );
+    let w4 = chains::more2_less2(p, w3, h.g1, u.t4, h.l, u.t2, h.f2, k1, o.n7, a);
+    let f0 = chains::more1_less1(p, w4, g2, h.k2, f1, h.e4);
     let k3 = barrett::cross(p, h.f2, h.q, g2, a);
-    let w4 = field::add(p, f0, u.t1);
-    let g0 = chains::more2_less3(p, v.t1, f1, h.e3, o.n6, a, h.l, w4, h.g1, u.t3, o.n9, k3);
+    let w5 = chains::more2_less2(p, v.t1, f1, h.e3, o.n6, a, h.g1, u.t3, o.n9, k3);
+    let w6 = field::add(p, f0, u.t1);
+    let g0 = barrett::less1(p, w5, h.l, w6);
     Body { g2, f1, f0, g0 }
 }
 

@@ -12,7 +12,7 @@ use Rattle.curve.specs.Curve.{Curve}
 use Rattle.divisor.specs.Kind.{k31}
 use Rattle.type61_numbers.proofs.Equations.{Equations, F2-of, c-of}
 use Rattle.barrett.specs.Contract.{more₁, less₁, cross₂}
-use Rattle.chains.specs.Contract.{more₁-less₂, more₂-less₁, more₃-less₃, more₂-less₃}
+use Rattle.chains.specs.Contract.{more₁-less₁, more₁-less₂, more₂-less₁, more₂-less₂}
 use Rattle.basis.specs.declared.Divisor.{Divisor}
 use Rattle.basis.specs.Divisor.{numbers-of, residues, Shaped}
 use Rattle.vector.specs.Vector.{at}
@@ -110,12 +110,14 @@ module _ {p : ℕ} {o : Lower} {n : Divisor} {s t : Column} {i : ℕ} {u v : Tai
               ∙ (λ j. more₂-less₁ R (R .neg (u2 j)) (el p (h .f2)) (less₁ R (e4-is j) (O .n11-is j) (q-is j)) S (R .add (el p (h .g1)) (O .n8-is j)) (q-is j) (sym r0-difference j))
               ∙ g2-equals R a0 (C .c5) (C .c8) (us 2) (us 4) S (vs 4) T (el p (h .f2)) (el p (b .f1)) (el p (b .g2)) (el p (h .g1));
           F0 = B .f0-is
-              ∙ (λ j. more₃-less₃ R (R .add (U .t1-is j) (R .neg (v2 j))) (el p (h .g1)) (U .t4-is j) (el p (b .g2)) (k2-is j) (l-is j) (u2 j) (el p (b .f1)) (e4-is j) (el p (h .f2))
-              (less₁ R (e3-is j) (O .n10-is j) (q-is j)) (O .n7-is j) S)
+              ∙ (λ j. more₁-less₁ R
+              (more₂-less₂ R (R .add (U .t1-is j) (R .neg (v2 j))) (el p (h .g1)) (U .t4-is j) (l-is j) (u2 j) (el p (h .f2)) (less₁ R (e3-is j) (O .n10-is j) (q-is j)) (O .n7-is j) S)
+              (el p (b .g2)) (k2-is j) (el p (b .f1)) (e4-is j))
               ∙ f0-equals R a0 (C .c4) (C .c7) (us 1) (us 2) (us 3) (us 4) S (vs 2) (vs 3) (vs 4) T (el p (b .f1)) (el p (h .f2)) (el p (h .g1)) (el p (b .g2));
           G0 = B .g0-is
-              ∙ (λ j. more₂-less₃ R (W .t1-is j) (el p (b .f1)) (e3-is j) (O .n6-is j) S (l-is j) (R .add (el p (b .f0)) (U .t1-is j)) (el p (h .g1)) (U .t3-is j) (O .n9-is j)
-              (cross₂ R (el p (h .f2)) (q-is j) (el p (b .g2)) S))
+              ∙ (λ j. less₁ R
+              (more₂-less₂ R (W .t1-is j) (el p (b .f1)) (e3-is j) (O .n6-is j) S (el p (h .g1)) (U .t3-is j) (O .n9-is j) (cross₂ R (el p (h .f2)) (q-is j) (el p (b .g2)) S))
+              (l-is j) (R .add (el p (b .f0)) (U .t1-is j)))
               ∙ g0-equals R a0 (C .c3) (C .c6) (us 1) (us 3) S (vs 1) (vs 3) T (el p (b .f0)) (el p (b .f1)) (el p (h .f2)) (el p (h .g1)) (el p (b .g2));
           F2H2 = ap (R .mul (el p (h .f2))) (L .h2-is ∙ (λ j. more₁ R (el p (h .g1)) (el p i) (less₁ R (el p (b .f0)) (el p (b .g2)) (sym r0-difference j))))
               ∙ h2-equals R (el p i) (el p (b .f0)) (el p (b .f1)) (el p (h .f2)) (el p (h .g1)) (el p (b .g2)) unit;

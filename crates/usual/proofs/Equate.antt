@@ -79,11 +79,11 @@ module _ {A : Type 0} (O : Ops A) where
 
   abbrev pub f0-at : A → A → A → A → A → A → A → A → A → A → A → A → A → A → A → A → A
   f0-at a0 c4 c7 u1 u2 u3 u4 s v2 v3 v4 t n1 n2 n4 n5 =
-      u1 ⊖ v2 ⊹ n4 · u4 ⊹ n5 · k2-at c7 u3 s ⊹ l-at a0 s · u2 ⊖ n1 · less-at a0 s u4 v4 ⊖ n2 · (less-at a0 s u3 v3 ⊖ O .neg c7 · q-at a0 s t) ⊖ O .neg c4 · s
+      u1 ⊖ v2 ⊹ n4 · u4 ⊹ l-at a0 s · u2 ⊖ n2 · (less-at a0 s u3 v3 ⊖ O .neg c7 · q-at a0 s t) ⊖ O .neg c4 · s ⊹ n5 · k2-at c7 u3 s ⊖ n1 · less-at a0 s u4 v4
 
   abbrev pub g0-at : A → A → A → A → A → A → A → A → A → A → A → A → A → A → A
   g0-at a0 c3 c6 u1 u3 s v1 v3 t n0 n1 n2 n4 n5 =
-      v1 ⊹ n1 · less-at a0 s u3 v3 ⊹ O .neg c3 · s ⊖ l-at a0 s · (n0 ⊹ u1) ⊖ n4 · u3 ⊖ O .neg c6 · (n2 · q-at a0 s t ⊖ n5 · s)
+      v1 ⊹ n1 · less-at a0 s u3 v3 ⊹ O .neg c3 · s ⊖ n4 · u3 ⊖ O .neg c6 · (n2 · q-at a0 s t ⊖ n5 · s) ⊖ l-at a0 s · (n0 ⊹ u1)
 
 module _ (R : CommRing) where
   open CommRing R using (Car, zero as 𝟘, one as 𝟙, mul as _⊗_)
