@@ -30,8 +30,8 @@ use Rattle.divisor.specs.Kind.{k31, polynomials, IdealOf, IsBasis}
 use Rattle.divisor.proofs.Monomials.{mono-one, mono-x, mono-y}
 use Rattle.divisor.proofs.Terms.{Terms, terms, find, coefficient-terms}
 use Rattle.divisor.proofs.Table.{class-by}
-use Rattle.formula.proofs.Letters as letters
-use Rattle.formula.proofs.Value.{origin-at}
+use Rattle.expressions.proofs.Letters as letters
+use Rattle.expressions.proofs.Value.{origin-at}
 use Rattle.columns.specs.Pivots.{determinant}
 
 module _ {A : Type 0} (O : Ops A) where

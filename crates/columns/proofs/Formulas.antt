@@ -19,10 +19,10 @@ use Rattle.divisor.specs.Kind.{k31, polynomials, IdealOf}
 use Rattle.divisor.proofs.Table.{class-by}
 use Rattle.divisor.proofs.Over.{polynomials-over}
 use Rattle.divisor.proofs.Members.{member}
-use Rattle.formula.proofs.Letters as letters
-use Rattle.formula.proofs.Letters.{_⊝_, origin}
-use Rattle.formula.proofs.Value as formula
-use Rattle.formula.proofs.Value.{number-at, at-same, origin-at}
+use Rattle.expressions.proofs.Letters as letters
+use Rattle.expressions.proofs.Letters.{_⊝_, origin}
+use Rattle.expressions.proofs.Value as formula
+use Rattle.expressions.proofs.Value.{number-at, at-same, origin-at}
 use Rattle.invertible.proofs.Formula.{forms}
 use Rattle.invertible.proofs.Value.{nine, at}
 use Rattle.invertible.proofs.Adjugate.{q}

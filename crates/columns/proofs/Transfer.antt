@@ -35,9 +35,9 @@ use Rattle.divisor.proofs.Members.{member, member-monic}
 use Rattle.divisor.proofs.Basis.{lead-basis}
 use Rattle.type61.proofs.Form.{form-over, less, cubic, quartic}
 use Rattle.type61.proofs.Shape.{Type61}
-use Rattle.formula.proofs.Letters as letters
-use Rattle.formula.proofs.Letters.{_⊝_, origin}
-use Rattle.formula.proofs.Value.{at, number-at, at-same, origin-at}
+use Rattle.expressions.proofs.Letters as letters
+use Rattle.expressions.proofs.Letters.{_⊝_, origin}
+use Rattle.expressions.proofs.Value.{at, number-at, at-same, origin-at}
 use Rattle.invertible.proofs.Certificate.{form}
 use Rattle.columns.specs.Pivots.{determinant}
 use Rattle.columns.proofs.Column.{mix, Solves, mixed, IsColumn, column-cong, column-mix, column-apart, column-zero, cramer, cramer-solves, independent}

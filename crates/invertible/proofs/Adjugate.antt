@@ -16,8 +16,8 @@ use Rattle.curve.specs.Curve.{Curve, Coordinate}
 use Rattle.divisor.specs.Kind.{k31, polynomials, IdealOf, IsBasis}
 use Rattle.divisor.proofs.Table.{class-by}
 use Rattle.divisor.proofs.Members.{member}
-use Rattle.formula.proofs.Letters.{F}
-use Rattle.formula.proofs.Value.{at-same}
+use Rattle.expressions.proofs.Letters.{F}
+use Rattle.expressions.proofs.Value.{at-same}
 use Rattle.invertible.proofs.Value.{nine, at, F-zero}
 use Rattle.invertible.proofs.Vanish.{flat, vanish}
 use Rattle.invertible.proofs.Certificate.{Relation, Quotient, form, syzygy, over, own, multiple, total, zeros}

@@ -18,7 +18,7 @@ use Rattle.algebra.proofs.Test.{both}
 use Rattle.algebra.proofs.Solve.{_⊞_, _⊠_, ⊟_, combine}
 use Rattle.ideal.proofs.Every.{all}
 use Rattle.divisor.specs.Kind.{Kind}
-use Rattle.formula.proofs.Letters.{F, derivative}
+use Rattle.expressions.proofs.Letters.{F, derivative}
 use Rattle.invertible.proofs.Formula.{forms}
 use Rattle.invertible.proofs.Vanish.{flat}
 

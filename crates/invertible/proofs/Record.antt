@@ -19,7 +19,7 @@ use Rattle.nonsingular.proofs.Nonsingular.{nonsingular}
 use Rattle.divisor.specs.Kind.{Kind, k0, k11, k21, k22, k31, polynomials, IdealOf, IsBasis}
 use Rattle.divisor.proofs.Table.{kind-by}
 use Rattle.divisor.proofs.Members.{member, member-pole}
-use Rattle.formula.proofs.Letters.{F, derivative}
+use Rattle.expressions.proofs.Letters.{F, derivative}
 use Rattle.invertible.proofs.Value.{at, slope-x, slope-y}
 use Rattle.invertible.proofs.Certificate.{form}
 use Rattle.invertible.proofs.Relations.{certificate, certified}

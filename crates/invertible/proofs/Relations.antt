@@ -19,7 +19,7 @@ use Rattle.algebra.proofs.Norm.{E, num, nil, unit}
 use Rattle.algebra.proofs.Solve.{_⊞_, _⊠_, ⊟_, _^^_}
 use Rattle.divisor.specs.Kind.{Kind, k0, k11, k21, k22, k31}
 use Rattle.divisor.proofs.Table.{kind-by}
-use Rattle.formula.proofs.Letters.{_⊝_, x, y, a0, c, n, F, derivative}
+use Rattle.expressions.proofs.Letters.{_⊝_, x, y, a0, c, n, F, derivative}
 use Rattle.invertible.proofs.Certificate.{Row, Certificate, form, of-F, syzygy, over, own, valid}
 
 abbrev whole : Certificate

@@ -17,8 +17,8 @@ use Rattle.ideal.proofs.Generated.{generated-ideal, generated-each, generated-i
 use Rattle.ideal.proofs.Invertible.{multiple-ideal}
 use Rattle.curve.specs.Curve.{Curve, Coordinate}
 use Rattle.divisor.specs.Kind.{Kind, polynomials, IdealOf, IsBasis}
-use Rattle.formula.proofs.Letters.{F, derivative}
-use Rattle.formula.proofs.Value.{at-same}
+use Rattle.expressions.proofs.Letters.{F, derivative}
+use Rattle.expressions.proofs.Value.{at-same}
 use Rattle.invertible.proofs.Formula.{forms}
 use Rattle.invertible.proofs.Value as value
 use Rattle.invertible.proofs.Vanish.{flat, vanish}

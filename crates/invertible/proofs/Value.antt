@@ -16,10 +16,10 @@ use Rattle.nonsingular.specs.Derivative.{derivative-x, derivative-y}
 use Rattle.nonsingular.proofs.Quotient.{at-of-parts}
 use Rattle.divisor.specs.Kind.{Kind, polynomials}
 use Rattle.divisor.proofs.Table.{kind-by}
-use Rattle.formula.proofs.Letters as letters
-use Rattle.formula.proofs.Letters.{a0, c, F, derivative, origin}
-use Rattle.formula.proofs.Value as formula
-use Rattle.formula.proofs.Value.{number-at, at-same, origin-at}
+use Rattle.expressions.proofs.Letters as letters
+use Rattle.expressions.proofs.Letters.{a0, c, F, derivative, origin}
+use Rattle.expressions.proofs.Value as formula
+use Rattle.expressions.proofs.Value.{number-at, at-same, origin-at}
 use Rattle.invertible.proofs.Formula.{forms}
 
 abbrev pub nine : {A : Type 0} → (ℕ → A) → List A

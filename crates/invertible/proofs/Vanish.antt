@@ -22,8 +22,8 @@ use Rattle.divisor.specs.Kind.{Kind, k31, remaining, IdealOf, MadeOf, IsBasis}
 use Rattle.divisor.proofs.Monomials.{mono-one, mono-x, mono-y}
 use Rattle.divisor.proofs.Terms.{Terms, terms, places, find, coefficient-terms, terms-made}
 use Rattle.divisor.proofs.Table.{kind-by, remaining-poles, remaining-monos}
-use Rattle.formula.proofs.Letters.{x, y, derivative, origin}
-use Rattle.formula.proofs.Value.{number-at, at-same, origin-at}
+use Rattle.expressions.proofs.Letters.{x, y, derivative, origin}
+use Rattle.expressions.proofs.Value.{number-at, at-same, origin-at}
 use Rattle.invertible.proofs.Value.{nine, at}
 
 -- what has the coefficient of e at the pole number p for its value at x = y = 0

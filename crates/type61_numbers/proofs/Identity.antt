@@ -1,5 +1,5 @@
 -- The first six equations, from f·v = u·(κ·g + ν·f) for the polynomials f and g of the record: the coefficients at the pole numbers 16 and 15
--- give κ = 1 and ν = ℓ, and those at 14 … 9 the equations. Every formula is an expression of the ring solver, in the letters of crate formula.
+-- give κ = 1 and ν = ℓ, and those at 14 … 9 the equations. Every formula is an expression of the ring solver, in the letters of crate expressions.
 --   u i, v i, κ, ν         more letters: the numbers of u and v, and κ and ν
 --   equal s t              f·v − u·(s·g + t·f)
 --   multiple s t, difference s t   … and the multiple of F that takes its y³ away: the factor, and the sum of both
@@ -22,10 +22,10 @@ use Rattle.curve.specs.Curve.{Curve, Coordinate, constant}
 use Rattle.curve.proofs.Coefficient.{constant-one, constant-mul}
 use Rattle.divisor.specs.Kind.{k31}
 use Rattle.type61.proofs.Form.{form-over, cubic, quartic, first, second}
-use Rattle.formula.proofs.Letters.{_⊝_, x, y, a0, c, n, F, origin}
-use Rattle.formula.proofs.Value.{numbers, at}
-use Rattle.formula.proofs.Coefficients.{cut, present, cut-zero, less-F}
-use Rattle.formula.proofs.Zeros.{from-zeros}
+use Rattle.expressions.proofs.Letters.{_⊝_, x, y, a0, c, n, F, origin}
+use Rattle.expressions.proofs.Value.{numbers, at}
+use Rattle.expressions.proofs.Coefficients.{cut, present, cut-zero, less-F}
+use Rattle.expressions.proofs.Zeros.{from-zeros}
 use Rattle.invertible.proofs.Certificate.{form}
 use Rattle.type61_numbers.proofs.Equations.{F2-of, r0-of, G1-of, F2G2-of, F0-of, G0-of, c-of}
 

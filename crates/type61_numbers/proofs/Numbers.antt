@@ -15,10 +15,10 @@ use Rattle.algebra.proofs.Sound.{value}
 use Rattle.curve.specs.Curve.{Curve, Coordinate, constant}
 use Rattle.divisor.specs.Kind.{k31, IdealOf, IsBasis}
 use Rattle.type61.proofs.Form.{cubic, quartic, first, second}
-use Rattle.formula.proofs.Letters.{a0, c, n, origin}
-use Rattle.formula.proofs.Value.{numbers, at}
-use Rattle.formula.proofs.Coefficients.{cut, present, cut-zero}
-use Rattle.formula.proofs.Zeros.{from-zeros}
+use Rattle.expressions.proofs.Letters.{a0, c, n, origin}
+use Rattle.expressions.proofs.Value.{numbers, at}
+use Rattle.expressions.proofs.Coefficients.{cut, present, cut-zero}
+use Rattle.expressions.proofs.Zeros.{from-zeros}
 use Rattle.invertible.proofs.Value.{nine}
 use Rattle.invertible.proofs.Certificate.{zeros}
 use Rattle.invertible.proofs.Relations.{certificate}

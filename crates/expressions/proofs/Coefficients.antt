@@ -28,8 +28,8 @@ use Rattle.curve.specs.Monomial as monomials
 use Rattle.curve.specs.Monomial.{power, mono}
 use Rattle.curve.proofs.Term.{coefficient-zero}
 use Rattle.divisor.proofs.Terms.{Terms, terms, find, places, absent, distinct, find-absent, coefficient-terms}
-use Rattle.formula.proofs.Letters.{_⊝_, x, y, F, origin}
-use Rattle.formula.proofs.Value.{at, number-at, at-same, origin-at, F-zero}
+use Rattle.expressions.proofs.Letters.{_⊝_, x, y, F, origin}
+use Rattle.expressions.proofs.Value.{at, number-at, at-same, origin-at, F-zero}
 
 -- the coefficient of the i-th power of the first letter, in the letters after it
 abbrev take : ℕ → H → H

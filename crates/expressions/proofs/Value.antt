@@ -12,7 +12,7 @@ use Rattle.algebra.proofs.Sound.{number, nth, raise, value, same-value}
 use Rattle.curve.specs.Curve.{Curve, Coordinate, x, y, constant}
 use Rattle.curve.proofs.Coefficient.{constant-zero, constant-one, constant-add, constant-neg, constant-mul}
 use Rattle.curve.proofs.Equation.{curve-equation}
-use Rattle.formula.proofs.Letters.{F, origin}
+use Rattle.expressions.proofs.Letters.{F, origin}
 
 module _ {k : CommRing} (C : Curve k) (us : List (k .Car)) where
   open CommRing (Coordinate C) using (Car as El, zero as 𝟎, add as _⊕_, mul as _⊗_, neg as ⊖_)
