@@ -398,3 +398,10 @@ void quick_prepare(struct quick_curve *c, uint32_t p, uint32_t c3, uint32_t c4, 
     c->c3 = c3, c->c4 = c4, c->c7 = c7;
     c->c7R = c7 * R % p;
 }
+
+const struct quick_version quick_version[QUICK_VERSIONS] = {
+    {"montgomery", quick_sum_montgomery, quick_double_montgomery},
+    {"reciprocal", quick_sum_reciprocal, quick_double_reciprocal},
+    {"remainder", quick_sum_remainder, quick_double_remainder},
+    {"source", quick_sum_source, quick_double_source},
+};

@@ -34,4 +34,13 @@ typedef int quick_double(const struct quick_curve *c, const struct nine *a, stru
 quick_sum quick_sum_montgomery, quick_sum_reciprocal, quick_sum_remainder, quick_sum_source;
 quick_double quick_double_montgomery, quick_double_reciprocal, quick_double_remainder, quick_double_source;
 
+/* All of them. */
+enum { QUICK_VERSIONS = 4 };
+struct quick_version {
+    const char *name;
+    quick_sum *sum;
+    quick_double *twice;
+};
+extern const struct quick_version quick_version[QUICK_VERSIONS];
+
 #endif

@@ -1,6 +1,6 @@
 /* The calls of change request 2026-08 over quick.c, as static functions, to be included after overlap_calls.c:
-   base_quick_sum, base_quick_double and base_quick_serves. Signatures and refusals as those of base_sum, base_double and
-   base_compare. */
+   base_quick_sum, base_quick_double and base_quick_serves. Signatures and refusals as those of base_sum, base_double
+   and base_compare. */
 #include "quick.h"
 #include <string.h>
 

@@ -15,21 +15,6 @@
 #define COMPILER "an unnamed compiler"
 #endif
 
-#define COUNT_OF(a) ((int)(sizeof(a) / sizeof(a)[0]))
-
-static const struct {
-    const char *name;
-    quick_sum *sum;
-    quick_double *twice;
-} version[] = {
-    {"montgomery", quick_sum_montgomery, quick_double_montgomery},
-    {"reciprocal", quick_sum_reciprocal, quick_double_reciprocal},
-    {"remainder", quick_sum_remainder, quick_double_remainder},
-    {"source", quick_sum_source, quick_double_source},
-};
-
-enum { VERSIONS = COUNT_OF(version) };
-
 static void fail(const char *what, const char *who)
 {
     printf("%s: %s\n", who, what);
@@ -109,14 +94,14 @@ static void check_pair(const struct set *s, const struct record *a, const struct
     struct record sum_ab = sum(&s->general, a, b), twice_a = twice(&s->general, a);
     struct nine na = nine_of(a), nb = nine_of(b);
     int first_sum = 0, first_double = 0;
-    for (int i = 0; i < VERSIONS; i++) {
+    for (int i = 0; i < QUICK_VERSIONS; i++) {
         struct nine r = na, q = na;
-        int served_sum = version[i].sum(&s->quick, &r, &nb, &r);
+        int served_sum = quick_version[i].sum(&s->quick, &r, &nb, &r);
         first_sum = i == 0 ? served_sum : first_sum;
-        check(version[i].name, served_sum, &r, &sum_ab, first_sum);
-        int served_double = version[i].twice(&s->quick, &q, &q);
+        check(quick_version[i].name, served_sum, &r, &sum_ab, first_sum);
+        int served_double = quick_version[i].twice(&s->quick, &q, &q);
         first_double = i == 0 ? served_double : first_double;
-        check(version[i].name, served_double, &q, &twice_a, first_double);
+        check(quick_version[i].name, served_double, &q, &twice_a, first_double);
     }
     t->pairs++;
     t->sums += first_sum;
@@ -154,12 +139,12 @@ static void extremes(uint32_t p)
         }
         uint32_t bits = random_below(8);
         quick_prepare(&c, p, bits % 2 * (p - 1), bits / 2 % 2 * (p - 1), bits / 4 * (p - 1));
-        int sum_0 = version[0].sum(&c, &ab[0], &ab[1], &r[0]), twice_0 = version[0].twice(&c, &ab[0], &q[0]);
-        for (int v = 1; v < VERSIONS; v++) {
-            int sum_v = version[v].sum(&c, &ab[0], &ab[1], &r[1]), twice_v = version[v].twice(&c, &ab[0], &q[1]);
+        int sum_0 = quick_version[0].sum(&c, &ab[0], &ab[1], &r[0]), twice_0 = quick_version[0].twice(&c, &ab[0], &q[0]);
+        for (int v = 1; v < QUICK_VERSIONS; v++) {
+            int sum_v = quick_version[v].sum(&c, &ab[0], &ab[1], &r[1]), twice_v = quick_version[v].twice(&c, &ab[0], &q[1]);
             if (sum_v != sum_0 || twice_v != twice_0 || (sum_0 && memcmp(&r[0], &r[1], sizeof r[0]) != 0) ||
                 (twice_0 && memcmp(&q[0], &q[1], sizeof q[0]) != 0))
-                fail("differs from the first version", version[v].name);
+                fail("differs from the first version", quick_version[v].name);
         }
         served += sum_0 + twice_0;
     }
@@ -211,15 +196,15 @@ static void sequences(void)
 {
     struct set s;
     set_curve(&s, 268435399, paper_curve);
-    for (int i = 0; i < VERSIONS; i++) {
+    for (int i = 0; i < QUICK_VERSIONS; i++) {
         struct nine a = paper_d1, b = paper_d2, d = paper_d1;
         for (int j = 0; j < 2; j++) {
-            if (!fibonacci(&s.quick, version[i].sum, &a, &b, j == 0 ? 998 : 99000) ||
+            if (!fibonacci(&s.quick, quick_version[i].sum, &a, &b, j == 0 ? 998 : 99000) ||
                 memcmp(&b, &fibonacci_terms[j], sizeof b) != 0)
-                fail("Fibonacci terms differ", version[i].name);
-            if (!doubling(&s.quick, version[i].twice, &d, j == 0 ? 999 : 99000) ||
+                fail("Fibonacci terms differ", quick_version[i].name);
+            if (!doubling(&s.quick, quick_version[i].twice, &d, j == 0 ? 999 : 99000) ||
                 memcmp(&d, &doubling_terms[j], sizeof d) != 0)
-                fail("doubling terms differ", version[i].name);
+                fail("doubling terms differ", quick_version[i].name);
         }
     }
     printf("p = 268435399: terms 1000 and 100000 of both sequences are right\n");
@@ -245,23 +230,23 @@ static double once(const struct quick_curve *c, int v, int what)
     int served = 1, n = what % 2 == 0 ? CHAIN : RECORDS;
     double t = now();
     if (what == 0)
-        served = fibonacci(c, version[v].sum, &a, &b, n);
+        served = fibonacci(c, quick_version[v].sum, &a, &b, n);
     else if (what == 2)
-        served = doubling(c, version[v].twice, &a, n);
+        served = doubling(c, quick_version[v].twice, &a, n);
     else
         for (int i = 0; i < n; i++)
-            served &= what == 1 ? version[v].sum(c, &array[i], &array[(i + 1) % RECORDS], &result[i])
-                                : version[v].twice(c, &array[i], &result[i]);
+            served &= what == 1 ? quick_version[v].sum(c, &array[i], &array[(i + 1) % RECORDS], &result[i])
+                                : quick_version[v].twice(c, &array[i], &result[i]);
     t = now() - t;
     if (!served)
-        fail("not served", version[v].name);
+        fail("not served", quick_version[v].name);
     return t / n;
 }
 
 static void times(const struct set *s)
 {
-    double best[VERSIONS][4];
-    for (int v = 0; v < VERSIONS; v++)
+    double best[QUICK_VERSIONS][4];
+    for (int v = 0; v < QUICK_VERSIONS; v++)
         for (int what = 0; what < 4; what++)
             best[v][what] = 1e30;
     for (int i = 0; i < RECORDS; i++) {
@@ -269,7 +254,7 @@ static void times(const struct set *s)
         array[i] = nine_of(&r);
     }
     for (int round = 0; round < ROUNDS; round++)
-        for (int v = 0; v < VERSIONS; v++)
+        for (int v = 0; v < QUICK_VERSIONS; v++)
             for (int what = 0; what < 4; what++) {
                 double t = once(&s->quick, v, what);
                 best[v][what] = t < best[v][what] ? t : best[v][what];
@@ -277,8 +262,8 @@ static void times(const struct set *s)
     printf("\n| %s, p = %-10u | sum, chain | sum, array | double, chain | double, array |\n", COMPILER,
            (unsigned)s->quick.p);
     printf("|---|---:|---:|---:|---:|\n");
-    for (int v = 0; v < VERSIONS; v++)
-        printf("| %-10s | %5.1f | %5.1f | %5.1f | %5.1f |\n", version[v].name, best[v][0], best[v][1], best[v][2],
+    for (int v = 0; v < QUICK_VERSIONS; v++)
+        printf("| %-10s | %5.1f | %5.1f | %5.1f | %5.1f |\n", quick_version[v].name, best[v][0], best[v][1], best[v][2],
                best[v][3]);
 }
 
@@ -288,10 +273,10 @@ static int alone(const char *name, const char *operation, int n)
     struct set s;
     struct nine a = paper_d1, b = paper_d2;
     set_curve(&s, 268435399, paper_curve);
-    for (int v = 0; v < VERSIONS; v++)
-        if (strcmp(name, version[v].name) == 0)
-            return strcmp(operation, "sum") == 0 ? !fibonacci(&s.quick, version[v].sum, &a, &b, n)
-                                                 : !doubling(&s.quick, version[v].twice, &a, n);
+    for (int v = 0; v < QUICK_VERSIONS; v++)
+        if (strcmp(name, quick_version[v].name) == 0)
+            return strcmp(operation, "sum") == 0 ? !fibonacci(&s.quick, quick_version[v].sum, &a, &b, n)
+                                                 : !doubling(&s.quick, quick_version[v].twice, &a, n);
     fail("no such version", name);
     return 1;
 }

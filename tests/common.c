@@ -3,9 +3,9 @@
 #include <stdio.h>
 #include <stdlib.h>
 
-const char *const verb_name[ALL_VERBS] = {"curve", "divisor", "sum",    "double", "neg", "mul",   "lsum",
-                                          "cmp",   "count",   "frac",   "words",  "gcd", "lcm",   "road",
-                                          "qsum",  "qdouble", "qserves", "",      "psum", "points"};
+const char *const verb_name[ALL_VERBS] = {"curve", "divisor", "sum",     "double", "neg",  "mul",   "lsum",
+                                          "cmp",   "count",   "frac",    "words",  "gcd",  "lcm",   "road",
+                                          "qsum",  "qdouble", "qserves", "",       "psum", "points"};
 
 int writes(enum verb verb)
 {

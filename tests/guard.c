@@ -3,7 +3,7 @@
    truncation and lengthening of curve, fractions, records and lists, on wrong length and kind fields, on numbers and
    moduli at the borders of what is accepted, on result buffers of 0 to 60 bytes and on empty slices with a null
    pointer; the comparisons also on records that agree before a number and differ in one byte of it, and on all pairs of
-   records over F_2. */
+   records over F_2; the quick calls also on pairs for which their formulas serve. */
 #include "pages.h"
 #include "pairs.h"
 #include "records.h"
@@ -312,41 +312,64 @@ static void run_pairs(void)
         require(differ[words] > 0, "no two records over F_2 differ first in some word", NULL);
 }
 
-/* A null pointer with length 0 is an empty slice; so is, for the archive itself, a pointer behind the last byte. */
+/* The quick calls on two different records, and on two equal ones, for which their formulas serve. */
+static void run_served(const struct sample *s)
+{
+    int done[2] = {0}; /* for different records, for equal ones */
+    for (unsigned i = 0; i < s->records * s->records; i++) {
+        const struct record *a = &s->record[i / s->records], *b = &s->record[i % s->records];
+        if (done[same(a, b)] || !serves(&s->k, a->b, b->b))
+            continue;
+        for (enum verb v = QUICK_SUM; v <= QUICK_SERVES; v++) {
+            struct call c = {v, slice_of_curve(s), slice_of_record(a), slice_of_record(b), .out_len = least_buffer(v)};
+            vary(&c, s->k.p);
+        }
+        done[same(a, b)] = 1;
+    }
+    require(done[0] && done[1], "the quick formulas serve for no two records", NULL);
+}
+
+/* A null pointer with length 0 is an empty slice; so is, for the archive itself, a pointer behind the last byte. For
+   calls that take two divisors, two and a result buffer, one and a result buffer: */
+#define NULL_OF_TWO(call)                                                                                  \
+    require(call(NULL, 0, a, al, a, al) == -1, "null curve: " #call, NULL);                                \
+    require(call(k, kl, NULL, 0, a, al) == -6 && call(k, kl, a, al, NULL, 0) == -6, "null: " #call, NULL); \
+    require((call)(k, kl, a, al, a + al, 0) == -6, "empty divisor behind the last byte: " #call, NULL)
+#define NULL_OF_SUM(call)                                                                     \
+    require(call(NULL, 0, a, al, a, al, out, 40) == -1, "null curve: " #call, NULL);          \
+    require(call(k, kl, NULL, 0, a, al, out, 40) == -6, "null first divisor: " #call, NULL);  \
+    require(call(k, kl, a, al, NULL, 0, out, 40) == -6, "null second divisor: " #call, NULL); \
+    require(call(k, kl, a, al, a, al, NULL, 0) == -10, "null result: " #call, NULL);          \
+    require((call)(k, kl, a, al, a + al, 0, out, 40) == -6, "empty divisor behind the last byte: " #call, NULL)
+#define NULL_OF_DOUBLE(call)                                                                                        \
+    require(call(NULL, 0, a, al, out, 40) == -1 && call(k, kl, NULL, 0, out, 40) == -6, "null slice: " #call, NULL); \
+    require(call(k, kl, a, al, NULL, 0) == -10, "null result: " #call, NULL)
+
 static void run_null(const struct sample *s)
 {
     uint8_t out[C34_CURVE_LENGTH], f[C34_FRACTIONS_LENGTH];
     const uint8_t *k = s->curve, *a = s->record[0].b;
     size_t kl = C34_CURVE_LENGTH, al = s->record[0].len, fl = put_fractions(s, f);
-    uint32_t p = s->k.p;
     require(c34_check_curve(NULL, 0) == -1 && c34_check_divisor(NULL, 0, a, al) == -1, "null curve", NULL);
-    require(c34_check_divisor(k, kl, NULL, 0) == -6 && c34_compare(k, kl, a, al, NULL, 0) == -6, "null divisor", NULL);
-    require(c34_compare_words(NULL, 0, a, al, a, al) == -1, "null curve of two divisors", NULL);
-    require(c34_compare_words(k, kl, NULL, 0, a, al) == -6, "null first divisor of two", NULL);
-    require(c34_compare_words(k, kl, a, al, NULL, 0) == -6, "null second divisor of two", NULL);
-    require((c34_compare_words)(k, kl, a, al, a + al, 0) == -6, "empty divisor behind the last byte", NULL);
-    require(c34_sum(k, kl, NULL, 0, a, al, out, 40) == -6, "null first divisor", NULL);
-    require(c34_sum(k, kl, a, al, NULL, 0, out, 40) == -6, "null second divisor", NULL);
-    require(c34_sum(k, kl, a, al, a, al, NULL, 0) == -10, "null result of a sum", NULL);
-    require(c34_common_part(k, kl, NULL, 0, a, al, out, 40) == -6, "null first divisor of a common part", NULL);
-    require(c34_common_part(k, kl, a, al, NULL, 0, out, 40) == -6, "null second divisor of a common part", NULL);
-    require(c34_common_part(k, kl, a, al, a, al, NULL, 0) == -10, "null result of a common part", NULL);
-    require(c34_common_multiple(k, kl, NULL, 0, a, al, out, 40) == -6, "null first divisor of a multiple", NULL);
-    require(c34_common_multiple(k, kl, a, al, NULL, 0, out, 40) == -6, "null second divisor of a multiple", NULL);
-    require(c34_common_multiple(k, kl, a, al, a, al, NULL, 0) == -10, "null result of a common multiple", NULL);
-    require(c34_sum_by_parts(k, kl, NULL, 0, a, al, out, 40) == -6, "null first divisor of a sum by parts", NULL);
-    require(c34_sum_by_parts(k, kl, a, al, NULL, 0, out, 40) == -6, "null second divisor of a sum by parts", NULL);
-    require(c34_sum_by_parts(k, kl, a, al, a, al, NULL, 0) == -10, "null result of a sum by parts", NULL);
-    require((c34_sum_by_parts)(k, kl, a, al, a + al, 0, out, 40) == -6, "empty divisor behind the last byte", NULL);
-    require(c34_double(k, kl, a, al, NULL, 0) == -10, "null result of a double", NULL);
-    require(c34_negative(k, kl, a, al, NULL, 0) == -10, "null result of a negative", NULL);
+    require(c34_check_divisor(k, kl, NULL, 0) == -6, "null divisor", NULL);
+    NULL_OF_TWO(c34_compare);
+    NULL_OF_TWO(c34_compare_words);
+    NULL_OF_TWO(c34_quick_serves);
+    NULL_OF_SUM(c34_sum);
+    NULL_OF_SUM(c34_common_part);
+    NULL_OF_SUM(c34_common_multiple);
+    NULL_OF_SUM(c34_sum_by_parts);
+    NULL_OF_SUM(c34_quick_sum);
+    NULL_OF_DOUBLE(c34_double);
+    NULL_OF_DOUBLE(c34_negative);
+    NULL_OF_DOUBLE(c34_quick_double);
     require(c34_multiple(k, kl, a, al, 2, NULL, 0) == -10, "null result of a multiple", NULL);
     require(c34_list_sum(k, kl, NULL, 0, out, 40) == 4 && c34_count(k, kl, NULL, 0, 0) == 0, "null list", NULL);
     require((c34_list_sum)(k, kl, k + kl, 0, out, 40) == 4, "empty list behind the last byte", NULL);
-    require(c34_reduce_curve(NULL, 0, p, out, 44) == -12, "null fractions", NULL);
+    require(c34_reduce_curve(NULL, 0, s->k.p, out, 44) == -12, "null fractions", NULL);
     require(c34_reduce_curve(NULL, 0, 4, NULL, 0) == -12, "null fractions and a null result", NULL);
-    require(c34_reduce_curve(f, fl, p, NULL, 0) == -10, "null result of fractions", NULL);
-    require((c34_reduce_curve)(f + fl, 0, p, out, 44) == -12, "empty fractions behind the last byte", NULL);
+    require(c34_reduce_curve(f, fl, s->k.p, NULL, 0) == -10, "null result of fractions", NULL);
+    require((c34_reduce_curve)(f + fl, 0, s->k.p, out, 44) == -12, "empty fractions behind the last byte", NULL);
 }
 
 int main(void)
@@ -365,6 +388,10 @@ int main(void)
         run_null(&s);
         if (primes[i] == 5)
             run_headers(&s);
+        while (primes[i] > 3 && !is_short(&s.k))
+            make_sample(&s, primes[i], RECORDS);
+        if (primes[i] > 3)
+            run_served(&s);
     }
     run_bytes();
     run_pairs();

@@ -18,6 +18,12 @@ int main()
         return 1;
     if (c34_sum_by_parts(nullptr, 0, nullptr, 0, nullptr, 0, nullptr, 0) != -C34_REFUSED_CURVE_LENGTH)
         return 1;
+    if (c34_quick_sum(nullptr, 0, nullptr, 0, nullptr, 0, nullptr, 0) != -C34_REFUSED_CURVE_LENGTH)
+        return 1;
+    if (c34_quick_double(nullptr, 0, nullptr, 0, nullptr, 0) != -C34_REFUSED_CURVE_LENGTH)
+        return 1;
+    if (c34_quick_serves(nullptr, 0, nullptr, 0, nullptr, 0) != -C34_REFUSED_CURVE_LENGTH)
+        return 1;
     std::puts("header: usable from C++");
     return 0;
 }

@@ -17,6 +17,9 @@
    on_curve        1 if F is 0 at the pair
    multiplicity    the largest n for which an ideal lies inside the n-th power of another, that of a point
    put_point       the record of kind 11 of a pair; its length is returned
+   is_typical      1 if a record is of kind 31 with f2 not 0
+   is_short        1 if p is above 3 and c5, c6 and c8 are 0
+   serves          1 if the formulas of change request 2026-08 serve for two accepted records
    refusal_of      the number of the refusal of a call, 0 if it is accepted
    answer_of       what an accepted call returns; its result buffer is filled, by POINTS_OF in rising order
    by_definition   both together */
@@ -54,6 +57,10 @@ unsigned polynomials(const uint8_t *record, uint32_t v[3][WIDTH]);
 int on_curve(const struct curve *k, uint32_t x, uint32_t y);
 unsigned multiplicity(const struct curve *k, const struct ideal *a, const struct ideal *point);
 size_t put_point(const struct curve *k, uint32_t x, uint32_t y, uint8_t *record);
+
+int is_typical(const uint8_t *record);
+int is_short(const struct curve *k);
+int serves(const struct curve *k, const uint8_t *a, const uint8_t *b);
 
 /* The points of POINTS_OF come in rising order; all pairs are tried, so p must be small. */
 enum { TRIED = 2000 };

@@ -3,38 +3,21 @@
    the sum of the pair; and the sum by parts is the sum. All is compared byte for byte. */
 #include "records.h"
 #include <stdio.h>
-#include <string.h>
 
 static uint8_t curve[C34_CURVE_LENGTH];
 static long parts[C34_KIND_31 + 1]; /* by kind, how many common parts have it */
 static long inside, equal;          /* pairs where the common part, not zero, is one of the two, and equal ones */
 
-static int same(const struct record *a, const struct record *b)
-{
-    return a->len == b->len && memcmp(a->b, b->b, a->len) == 0;
-}
-
-/* What the call writes. */
-static struct record made(enum verb verb, const struct record *a, const struct record *b,
-                          int32_t (*by)(const struct call *))
-{
-    struct record r;
-    struct call c = {.verb = verb, .curve = {curve, sizeof curve}, .out = r.b, .out_len = sizeof r.b};
-    c.a = slice_of_record(a);
-    c.b = slice_of_record(b);
-    int32_t length = by(&c);
-    require(length > 0 && length <= C34_BUFFER, "two accepted records are refused", &c);
-    r.len = (size_t)length;
-    return r;
-}
-
 static void check(const struct record *a, const struct record *b)
 {
     struct call shown = {.verb = SUM, .curve = {curve, sizeof curve}, .a = slice_of_record(a), .b = slice_of_record(b)};
-    struct record part = made(COMMON_PART, a, b, by_library), multiple = made(COMMON_MULTIPLE, a, b, by_library);
-    struct record sum = made(SUM, a, b, by_library), by_parts = made(SUM_BY_PARTS, a, b, by_library);
-    struct record both = made(SUM, &multiple, &part, by_library);
-    struct record want_part = made(COMMON_PART, a, b, answer_of), want = made(COMMON_MULTIPLE, a, b, answer_of);
+    struct record part = made_of(COMMON_PART, curve, a, b, by_library);
+    struct record multiple = made_of(COMMON_MULTIPLE, curve, a, b, by_library);
+    struct record sum = made_of(SUM, curve, a, b, by_library);
+    struct record by_parts = made_of(SUM_BY_PARTS, curve, a, b, by_library);
+    struct record both = made_of(SUM, curve, &multiple, &part, by_library);
+    struct record want_part = made_of(COMMON_PART, curve, a, b, answer_of);
+    struct record want = made_of(COMMON_MULTIPLE, curve, a, b, answer_of);
     require(same(&part, &want_part), "the common part is another", &shown);
     require(same(&multiple, &want), "the common multiple is another", &shown);
     require(same(&both, &sum), "common multiple and common part have another sum", &shown);

@@ -37,11 +37,6 @@ static struct record list_sum(const struct sample *s, const struct pool *given, 
     return r;
 }
 
-static int same(const struct record *a, const struct record *b)
-{
-    return a->len == b->len && memcmp(a->b, b->b, a->len) == 0;
-}
-
 /* ---- sum calls ---- */
 
 /* The records at places i and j leave the pool, the rest close up, and r comes in at the end. */

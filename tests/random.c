@@ -19,6 +19,7 @@ static uint8_t given[3][LIST_ROOM + 64]; /* the bytes of curve, or fractions, of
 static struct call c;
 static long refused[REFUSALS + 1], accepted[VERBS], compared[WORDS + 1], made;
 static long common[C34_KIND_31 + 1]; /* by kind, how many common parts have it */
+static long served[2];               /* how often the formulas of the quick sum do not serve, and how often they do */
 
 /* ---- an accepted call ---- */
 
@@ -57,6 +58,15 @@ static void pick_overlap(const struct sample *s, struct record *a, struct record
     *b = overlap[s - sample][i][1];
 }
 
+/* Two records of kind 31 with f2 not 0, if some tries find them. */
+static void pick_typical(const struct sample *s, struct record *a, struct record *b)
+{
+    for (int tries = 0; tries < 20 && !is_typical(a->b); tries++)
+        *a = *pick(s);
+    for (int tries = 0; tries < 20 && !is_typical(b->b); tries++)
+        *b = *pick(s);
+}
+
 static int64_t random_multiplier(void)
 {
     static const int64_t border[] = {0, 1, -1, 2, -2, INT64_MAX, INT64_MIN, INT64_MIN + 1};
@@ -71,14 +81,23 @@ static int64_t random_multiplier(void)
     }
 }
 
+/* One time in six the sum, one in six a quick call, else any. */
+static enum verb random_verb(void)
+{
+    static const enum verb more[6] = {SUM, SUM, SUM, QUICK_SUM, QUICK_DOUBLE, QUICK_SERVES};
+    return random_below(3) == 0 ? more[random_below(6)] : (enum verb)random_below(VERBS);
+}
+
 static void make_call(const struct sample *s)
 {
     static uint8_t out[OUT_ROOM];
     struct record a, b;
+    c.verb = random_verb();
     pick_pair(s, &a, &b);
     if (s->points > 0 && random_below(3) == 0)
         pick_overlap(s, &a, &b);
-    c.verb = random_below(3) == 0 ? SUM : (enum verb)random_below(VERBS);
+    if (c.verb >= QUICK_SUM && random_below(2) == 0)
+        pick_typical(s, &a, &b);
     lend(0, slice_of_curve(s), &c.curve);
     lend(1, slice_of_record(&a), &c.a);
     lend(2, slice_of_record(&b), &c.b);
@@ -117,6 +136,8 @@ static void compare(int32_t e)
         compared[want]++;
     if (want > 0 && c.verb == COMMON_PART)
         common[get16(c.out + 2)]++;
+    if (want >= 0 && c.verb == QUICK_SERVES)
+        served[want]++;
 }
 
 /* ---- mutations ---- */
@@ -231,7 +252,13 @@ static const struct sample *random_sample(void)
     return &sample[random_below(SAMPLES)];
 }
 
-/* Of the mutated calls that are still accepted and write a divisor, which take long, one in 64 is made. */
+/* The independent implementation does. */
+static int takes_long(enum verb verb)
+{
+    return verb == QUICK_SERVES || (writes(verb) && verb != REDUCE_CURVE);
+}
+
+/* Of the mutated calls that are still accepted and take long one in 64 is made. */
 static void run_mutated(void)
 {
     const struct sample *s = random_sample();
@@ -239,9 +266,17 @@ static void run_mutated(void)
         make_call(s);
         mutate_call(s);
         int32_t e = refusal_of(&c);
-        if (e != 0 || !writes(c.verb) || c.verb == REDUCE_CURVE || random_below(64) == 0)
+        if (e != 0 || !takes_long(c.verb) || random_below(64) == 0)
             compare(e);
     }
+}
+
+/* A random sample; for p above 3, if so asked, on a curve with c5, c6 and c8 zero. */
+static void make_some(struct sample *s, uint32_t p, int short_form)
+{
+    do
+        make_sample(s, p, RECORDS);
+    while (short_form && p > 3 && !is_short(&s->k));
 }
 
 static void make_alike(void)
@@ -280,7 +315,7 @@ int main(int argc, char **argv)
     long full = argc > 1 ? atol(argv[1]) : 20000, mutated = argc > 2 ? atol(argv[2]) : 2000000, sums = 0;
     seed(20261115);
     for (unsigned i = 0; i < SAMPLES; i++)
-        make_sample(&sample[i], primes[i % (sizeof primes / sizeof *primes)], RECORDS);
+        make_some(&sample[i], primes[i % (sizeof primes / sizeof *primes)], i % 2);
     make_alike();
     for (unsigned i = 0; i < SAMPLES; i++)
         make_overlaps(&sample[i]);
@@ -298,7 +333,7 @@ int main(int argc, char **argv)
     printf("; common parts of kind 0, 11, 21, 22, 31:");
     for (int i = 0; i < 5; i++)
         printf(" %ld", common[kinds[i]]);
-    printf("\n");
+    printf("; the quick formulas serve for %ld of %ld\n", served[1], served[0] + served[1]);
     made = 0;
     while (made < mutated)
         run_mutated();
@@ -312,5 +347,6 @@ int main(int argc, char **argv)
         require(compared[n] > 0, "a number of words was never met", NULL);
     for (int i = 0; i < 5; i++)
         require(common[kinds[i]] > 0, "a kind of common parts was never met", NULL);
+    require(served[0] > 0 && served[1] > 0, "the quick formulas always serve, or never", NULL);
     return 0;
 }

@@ -17,9 +17,9 @@ void set_constants(uint32_t p, uint32_t *n);
 
 struct curve over_two(uint32_t bits);
 
-enum { CLASSES = 198 }; /* no curve of genus 3 over F_2 has more: the sixth power of 1 + sqrt(2) is below 198 */
+enum { CLASSES = 2349 }; /* no curve of genus 3 over F_7 has more: the sixth power of 1 + sqrt(7) is below 2349 */
 
-/* r has room for CLASSES records; more are an error. */
+/* p is at most 7. r has room for CLASSES records; more are an error. */
 unsigned all_records(const struct curve *k, struct record *r);
 
 #endif

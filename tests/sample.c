@@ -14,6 +14,24 @@ struct slice slice_of_record(const struct record *r)
     return (struct slice){r->b, r->len};
 }
 
+int same(const struct record *a, const struct record *b)
+{
+    return a->len == b->len && memcmp(a->b, b->b, a->len) == 0;
+}
+
+struct record made_of(enum verb verb, const uint8_t *curve, const struct record *a, const struct record *b,
+                      int32_t (*by)(const struct call *))
+{
+    struct record r;
+    struct call c = {.verb = verb, .curve = {curve, C34_CURVE_LENGTH}, .out = r.b, .out_len = sizeof r.b};
+    c.a = slice_of_record(a);
+    c.b = slice_of_record(b);
+    int32_t length = by(&c);
+    require(length > 0 && length <= C34_BUFFER, "two accepted records are refused", &c);
+    r.len = (size_t)length;
+    return r;
+}
+
 /* ---- points ---- */
 
 static uint32_t power(uint32_t p, uint32_t a, unsigned n)

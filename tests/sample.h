@@ -5,6 +5,8 @@
    of_kind       the first record of the sample that has the kind, NULL for none
    pick          a record of the sample
    pick_pair     two records of the sample, one time in three a degenerate pair
+   same          1 if two records have the same bytes
+   made_of       the record that a call writes
    put_fractions fractions that give the sample's curve modulo its p */
 #ifndef SAMPLE_H
 #define SAMPLE_H
@@ -38,6 +40,10 @@ const struct record *pick(const struct sample *s);
 struct record sum_of(const struct sample *s, const struct record *a, const struct record *b);
 struct record negative_of(const struct sample *s, const struct record *a);
 void pick_pair(const struct sample *s, struct record *a, struct record *b);
+int same(const struct record *a, const struct record *b);
+/* Of two accepted records on an accepted curve; by_library or answer_of makes the call. */
+struct record made_of(enum verb verb, const uint8_t *curve, const struct record *a, const struct record *b,
+                      int32_t (*by)(const struct call *));
 
 /* A random denominator that p does not divide, large or small. */
 uint32_t random_denominator(uint32_t p);
