@@ -1,4 +1,4 @@
-/* Times of the fourteen calls of libc34.a and of the same calls in C, by turns in one run on the same inputs, and
+/* Times of fourteen calls of libc34.a and of the same calls in C, by turns in one run on the same inputs, and
    ratios. The parts of a call are differences of calls' times. For the calls on what two divisors have in common there
    are also ratios to the sum of the same two.
      calls_times [NS]       prints all tables; NS is Singular's time of a bare sum, left out where it is not known
