@@ -187,8 +187,8 @@ static void one(const struct input *in)
     printf("| proved, by value | %10u | %6.0f | %6.0f |\n", in->p, by_value, doubled);
     printf("| its ratio to the best C | %10u | %6.2f | %6.2f |\n", in->p, by_value / best_sum, doubled / best_double);
     printf("| its ratio to the plain sum in C, %.0f ns | %10u | %6.3f | |\n", plain / (RECORDS - 1), in->p, by_value / (plain / (RECORDS - 1)));
-    printf("| list sum, per record, to the best C and the record's check | %10u | %6.2f | |\n", in->p,
-           (sums / RECORDS) / (best_sum + count / RECORDS));
+    printf("| list sum, multiple, per operation, to the best C and the checks | %10u | %6.2f | %6.2f |\n", in->p,
+           (sums / RECORDS) / (best_sum + count / RECORDS), twice / (best_double * DOUBLINGS + single));
 }
 
 int main(void)
