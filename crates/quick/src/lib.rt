@@ -44,13 +44,22 @@ pub fn served(g: Ground, x: Divisor, y: Divisor) -> Tried
     ensures { λ r. ⌜ ServedOf g x y r ⌝ }
 {
     if !short_form(g) {
-        return Tried { served: false, sum: x };
+        return Tried {
+            served: false,
+            sum: x,
+        };
     }
     if !is_typical(x) {
-        return Tried { served: false, sum: x };
+        return Tried {
+            served: false,
+            sum: x,
+        };
     }
     if !is_typical(y) {
-        return Tried { served: false, sum: x };
+        return Tried {
+            served: false,
+            sum: x,
+        };
     }
     usual::sum_tried(g, x, y)
 }
