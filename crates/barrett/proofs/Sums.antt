@@ -1,6 +1,6 @@
 -- Sums of products: to a number below p, which is below 2^31, four terms at most are added in 64 bits, products a·b or p² − a·b.
 --   product-most, square-most, product-square      a product and p² are terms, and p² is the larger
---   one-fits, more-one, less-one   x + a·b and x + a·(p − b)
+--   one-fits, one-half, other-half, more-one, less-one     x + a·b and x + a·(p − b), which are below 2^63
 --   product-sum            a·b is a sum
 --   added taken            x + a·b is a sum, and x + (p² − a·b) is x − a·b
 --   reduced                the number below p with the residue of a sum
@@ -38,6 +38,12 @@ product-sum p a b h ha hb = record { more = product-most p a b h ha hb; is = el-
 -- one product and a number of 32 bits always fit
 pub one-fits : (x a b : ℕ) → x < 4294967296 → a < 4294967296 → b < 4294967296 → Fits w64 (x + a * b)
 one-fits x a b hx ha hb = omega (arith, mul-le-mul {n₁ = a} {m₁ = b} {n₂ = 4294967295} {m₂ = 4294967295} (omega arith) (omega arith))
+
+pub one-half : (p x a b : ℕ) → p < 2147483648 → x < p → a < p → b < p → x + a * b < 9223372036854775808
+one-half p x a b h hx ha hb = omega (arith, product-most p a b h ha hb)
+
+pub other-half : (p x a b : ℕ) → p < 2147483648 → x < p → a < p → x + a * (p - b) < 9223372036854775808
+other-half p x a b h hx ha = omega (arith, mul-le-mul {n₁ = a} {m₁ = p - b} {n₂ = 2147483647} {m₂ = 2147483647} (omega arith) (omega arith))
 
 pub more-one : (p x a b : ℕ) → el p (x + a * b) ≡ more₁ (Z p) (el p x) (el p a) (el p b)
 more-one p x a b = el-add p x (a * b) ∙ ap (Z p .add (el p x)) (el-mul p a b)

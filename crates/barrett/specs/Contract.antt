@@ -4,7 +4,7 @@
 --   cross₂                    a·b − c·d
 --   more₁                     x + a·b
 --   less₁ less₂ less₃         x − a·b, x − (a·b + c·d), x − (a·b + c·d + e·f)
---   Below₄ Below₅ Below₆ Below₇    four, five, six, seven numbers are below p, and p is below 2^31
+--   Small₂ Small₃ Below₄ Below₅ Below₆ Below₇      two, three, four, five, six, seven numbers are below p, and p is below 2^31
 --   Terms p x a b             x is below p·2^32, a and b are below p
 --   Sum p r x                 r is a number below p·2^32 whose residue is x
 use mathlib.Core.Path.{_≡_}
@@ -39,6 +39,17 @@ module _ (R : CommRing) where
 
 abbrev pub term : ℕ
 term = 4611686014132420609
+
+pub record Small₂ (p a b : ℕ) : Type 0 where
+  pub small : p < 2147483648
+  pub below-1 : a < p
+  pub below-2 : b < p
+
+pub record Small₃ (p a b c : ℕ) : Type 0 where
+  pub small : p < 2147483648
+  pub below-1 : a < p
+  pub below-2 : b < p
+  pub below-3 : c < p
 
 pub record Below₄ (p a b c d : ℕ) : Type 0 where
   pub small : p < 2147483648

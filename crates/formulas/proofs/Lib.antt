@@ -1,2 +1,3 @@
--- Why one inversion is enough.
+-- Why one inversion is enough, and the last numbers.
 pub mod Inverted
+pub mod Divided

@@ -1,7 +1,7 @@
 -- What the functions of the formulas require and ensure.
 --   TailBelow, HeadBelow, BodyBelow, LastBelow     the numbers are below p
---   InversesAsked, InversesOf      inverses_of: the inverse of z, and z²/y
---   FactorAsked, FactorOf          factor: z²·f2
+--   FactorsAsked, FactorsOf        factors_of: y = z²·f2, z·y and z³
+--   InversesAsked, InversesOf      inverses_of: the inverse of z, and z²/y, for each z that the factors are made of
 --   TailAsked, TailOf              tail_of: u1 … u4, or v1 … v4
 --   HeadAsked, HeadOf              head_of
 --   BodyAsked, BodyOf              body_of
@@ -11,6 +11,7 @@ use Prim.Native.Nat.{ℕ, _<_}
 use Rattle.algebra.specs.Ring.{CommRing}
 use Rattle.prime.specs.Prime.{Prime}
 use Rattle.field.specs.Residue.{Z, el}
+use Rattle.field.specs.Contract.{Is}
 use Rattle.barrett.specs.Contract.{more₁, less₁, less₃, cross₂}
 use Rattle.chains.specs.Contract.{more₁-less₁, more₂-less₁, more₁-less₂, more₂-less₂}
 use Rattle.basis.specs.declared.Divisor.{Divisor}
@@ -22,6 +23,7 @@ use Rattle.formulas.specs.declared.Tail.{Tail}
 use Rattle.formulas.specs.declared.Head.{Head}
 use Rattle.formulas.specs.declared.Body.{Body}
 use Rattle.formulas.specs.declared.Last.{Last}
+use Rattle.formulas.specs.declared.Factors.{Factors}
 use Rattle.formulas.specs.declared.Inverses.{Inverses}
 
 pub record TailBelow (p : ℕ) (u : Tail) : Type 0 where
@@ -51,18 +53,7 @@ pub record LastBelow (p : ℕ) (l : Last) : Type 0 where
   pub h1 : l .h1 < p
   pub h2 : l .h2 < p
 
-pub record InversesAsked (p z y : ℕ) : Type 0 where
-  pub prime : Prime p
-  pub z-below : z < p
-  pub y-below : y < p
-
-pub record InversesOf (p z y : ℕ) (r : Inverses) : Type 0 where
-  pub one-below : r .one < p
-  pub two-below : r .two < p
-  pub one-is : ¬ (el p z ≡ Z p .zero) → ¬ (el p y ≡ Z p .zero) → Z p .mul (el p z) (el p (r .one)) ≡ Z p .one
-  pub two-is : ¬ (el p z ≡ Z p .zero) → ¬ (el p y ≡ Z p .zero) → Z p .mul (el p y) (el p (r .two)) ≡ Z p .mul (el p z) (el p z)
-
-pub record FactorAsked (p : ℕ) (o : Lower) (f2 z b c e : ℕ) : Type 0 where
+pub record FactorsAsked (p : ℕ) (o : Lower) (f2 z b c e : ℕ) : Type 0 where
   pub o-below : LowerBelow p o
   pub f2-below : f2 < p
   pub z-below : z < p
@@ -70,9 +61,29 @@ pub record FactorAsked (p : ℕ) (o : Lower) (f2 z b c e : ℕ) : Type 0 where
   pub c-below : c < p
   pub e-below : e < p
 
-pub record FactorOf (p : ℕ) (o : Lower) (f2 : ℕ) (z : ℕ) (b : ℕ) (c : ℕ) (e : ℕ) (r : ℕ) : Type 0 where
-  pub below : r < p
-  pub is : el p r ≡ cross₂ (Z p) (el p z) (more₁-less₁ (Z p) (Z p .add (el p e) (Z p .neg (el p b))) (el p z) (el p f2) (el p (o .n11)) (el p c)) (Z p .mul (el p (o .n12)) (el p c)) (el p c)
+-- z·(e − b + z·f2 − n11·c) − n12·c·c
+abbrev pub factor-of : (p : ℕ) (o : Lower) (f2 z b c e : ℕ) → Z p .Car
+factor-of p o f2 z b c e =
+    cross₂ (Z p) (el p z) (more₁-less₁ (Z p) (Z p .add (el p e) (Z p .neg (el p b))) (el p z) (el p f2) (el p (o .n11)) (el p c)) (Z p .mul (el p (o .n12)) (el p c)) (el p c)
+
+pub record FactorsOf (p : ℕ) (o : Lower) (f2 z b c e : ℕ) (r : Factors) : Type 0 where
+  pub y-is : Is p (r .y) (factor-of p o f2 z b c e)
+  pub zy-is : Is p (r .zy) (Z p .mul (el p z) (el p (r .y)))
+  pub zzz-is : Is p (r .zzz) (Z p .mul (Z p .mul (el p z) (el p z)) (el p z))
+
+pub record InversesAsked (p : ℕ) (f : Factors) : Type 0 where
+  pub prime : Prime p
+  pub small : p < 2147483648
+  pub y-below : f .y < p
+  pub zy-below : f .zy < p
+  pub zzz-below : f .zzz < p
+
+pub record InversesOf (p : ℕ) (f : Factors) (r : Inverses) : Type 0 where
+  pub one-below : r .one < p
+  pub two-below : r .two < p
+  pub one-is : (z : Z p .Car) → el p (f .zy) ≡ Z p .mul z (el p (f .y)) → ¬ (el p (f .zy) ≡ Z p .zero) → Z p .mul z (el p (r .one)) ≡ Z p .one
+  pub two-is : (z : Z p .Car) → el p (f .zy) ≡ Z p .mul z (el p (f .y)) → el p (f .zzz) ≡ Z p .mul (Z p .mul z z) z → ¬ (el p (f .zy) ≡ Z p .zero)
+      → Z p .mul (el p (f .y)) (el p (r .two)) ≡ Z p .mul z z
 
 pub record TailAsked (p : ℕ) (n : Divisor) (q0 q1 q2 : ℕ) (v : Column) : Type 0 where
   pub n-below : NumbersBelow p n
@@ -119,7 +130,7 @@ pub record BodyOf (p : ℕ) (o : Lower) (u : Tail) (v : Tail) (a : ℕ) (h : Hea
   pub g2-is : el p (r .g2) ≡ Z p .mul (el p i) (more₂-less₁ (Z p) (Z p .neg (el p (u .t2))) (el p (h .f2)) (less₁ (Z p) (el p (h .e4)) (el p (o .n11)) (el p (h .q))) (el p a) (Z p .add (el p (h .g1)) (el p (o .n8))) (el p (h .q)) (el p (h .r0)))
   pub f1-is : el p (r .f1) ≡ Z p .add (el p (h .r0)) (el p (r .g2))
   pub f0-is : el p (r .f0) ≡ more₁-less₁ (Z p) (more₂-less₂ (Z p) (Z p .add (el p (u .t1)) (Z p .neg (el p (v .t2)))) (el p (h .g1)) (el p (u .t4)) (el p (h .l)) (el p (u .t2)) (el p (h .f2)) (less₁ (Z p) (el p (h .e3)) (el p (o .n10)) (el p (h .q))) (el p (o .n7)) (el p a)) (el p (r .g2)) (el p (h .k2)) (el p (r .f1)) (el p (h .e4))
-  pub g0-is : el p (r .g0) ≡ less₁ (Z p) (more₂-less₂ (Z p) (el p (v .t1)) (el p (r .f1)) (el p (h .e3)) (el p (o .n6)) (el p a) (el p (h .g1)) (el p (u .t3)) (el p (o .n9)) (cross₂ (Z p) (el p (h .f2)) (el p (h .q)) (el p (r .g2)) (el p a))) (el p (h .l)) (Z p .add (el p (r .f0)) (el p (u .t1)))
+  pub g0-is : el p (r .g0) ≡ more₁-less₂ (Z p) (more₁-less₁ (Z p) (el p (v .t1)) (el p (o .n6)) (el p a) (el p (h .g1)) (el p (u .t3))) (el p (r .f1)) (el p (h .e3)) (el p (o .n9)) (cross₂ (Z p) (el p (h .f2)) (el p (h .q)) (el p (r .g2)) (el p a)) (el p (h .l)) (Z p .add (el p (r .f0)) (el p (u .t1)))
 
 pub record LastAsked (p : ℕ) (h : Head) (b : Body) (i : ℕ) : Type 0 where
   pub small : p < 2147483648

@@ -2,9 +2,10 @@
 --   Low x y            x and y are so small that their product is below 2^64
 --   Odd p              p is odd and below 2^32
 --   Opposite p v       v is −1/p modulo 2^32
+--   OppositeOf p v     v is −1/p modulo 2^32 where p is odd
 --   HalfAsked p v c j  v is −1/p modulo 2^32, c is at most p and j at most 32
 --   Half p c j r       r is c / 2^j modulo p, and at most p
---   EndAsked p c k     p is odd, c is at most p and k below 64
+--   EndAsked p v c k   v is −1/p modulo 2^32, c is at most p and k below 64
 --   chosen b x y       x where b holds, and y otherwise
 --   End p c k n r      r is c / 2^k modulo p, with the sign n, and at most p
 use mathlib.Core.Path.{_≡_}
@@ -23,6 +24,9 @@ pub record Opposite (p v : ℕ) : Type 0 where
   pub below : v < 4294967296
   pub is : (p * v + 1) % 4294967296 ≡ 0
 
+abbrev pub OppositeOf : (p v : ℕ) → Type 0
+OppositeOf p v = Odd p → Opposite p v
+
 pub record HalfAsked (p v c j : ℕ) : Type 0 where
   pub below : p < 4294967296
   pub opposite : Opposite p v
@@ -33,8 +37,9 @@ pub record Half (p c j r : ℕ) : Type 0 where
   pub most : r ≤ p
   pub is : (m : ℕ) × (r * 2 ^ j ≡ c + m * p)
 
-pub record EndAsked (p c k : ℕ) : Type 0 where
-  pub odd : Odd p
+pub record EndAsked (p v c k : ℕ) : Type 0 where
+  pub below : p < 4294967296
+  pub opposite : Opposite p v
   pub most : c ≤ p
   pub bits : k < 64
 

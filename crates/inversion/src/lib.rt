@@ -4,7 +4,7 @@ ghost use Rattle.field.specs.Contract.{Invertible, Is};
 ghost use Rattle.field.specs.Inverse.{inverse as inv};
 ghost use mathlib.Core.Path.{_≡_};
 ghost use Prim.Native.Nat.{_≤_, _^_};
-ghost use Rattle.inversion.specs.Contract.{Low, Odd, Opposite, HalfAsked, Half, EndAsked, End, chosen};
+ghost use Rattle.inversion.specs.Contract.{Low, Odd, Opposite, OppositeOf, HalfAsked, Half, EndAsked, End, chosen};
 
 // x·y modulo 2^32
 fn low(x: u64, y: u64) -> u64
@@ -31,6 +31,16 @@ fn opposite(p: u64) -> u64
     low(c, h + 1)
 }
 
+// −1/p modulo 2^32 for an odd p, and 0 for an even one
+pub fn opposite_of(p: u32) -> u64
+    ensures { λ r. ⌜ OppositeOf p r ⌝ }
+{
+    if p % 2 == 0 {
+        return 0;
+    }
+    opposite(p as u64)
+}
+
 // 2^j
 fn power(j: u32) -> u64
     requires { ⌜ j ≤ 32 ⌝ }
@@ -49,11 +59,10 @@ fn halved(p: u64, v: u64, c: u64, j: u32) -> u64
 }
 
 // c / 2^k modulo p, or its negative, by two divisions of at most 32 bits
-fn ended(p: u64, c: u64, k: u32, negative: bool) -> u64
-    requires { ⌜ EndAsked p c k ⌝ }
+fn ended(p: u64, v: u64, c: u64, k: u32, negative: bool) -> u64
+    requires { ⌜ EndAsked p v c k ⌝ }
     ensures { λ r. ⌜ End p c k negative r ⌝ }
 {
-    let v = opposite(p);
     let h = k / 2;
     let l = k - h;
     let s = halved(p, v, c, h);
@@ -68,11 +77,12 @@ fn pick(b: bool, x: u64, y: u64) -> u64
     if b { x } else { y }
 }
 
-// a⁻¹ for a prime p, and 0 for a = 0. In each turn x and y are odd and x·cy + y·cx = p, and modulo p a·cy = 2^k·y and
-// a·cx = −2^k·x, or both with the other sign. The difference of x and y takes the place of the greater, with its factors of
-// 2 taken out.
-pub fn inverse(p: u32, a: u32) -> u32
+// a⁻¹ for a prime p, and 0 for a = 0, where v is −1/p modulo 2^32 if p is odd. In each turn x and y are odd and
+// x·cy + y·cx = p, and modulo p a·cy = 2^k·y and a·cx = −2^k·x, or both with the other sign. The difference of x and y
+// takes the place of the greater, with its factors of 2 taken out.
+pub fn inverse_by(p: u32, v: u64, a: u32) -> u32
     requires { ⌜ Invertible p a ⌝ }
+    requires { ⌜ OppositeOf p v ⌝ }
     ensures { λ r. ⌜ Is p r (inv p (el p a)) ⌝ }
 {
     if a < 2 {
@@ -99,5 +109,14 @@ pub fn inverse(p: u32, a: u32) -> u32
         k = k + z;
         negative = negative ^ less;
     }
-    ended(w, cy, k, negative) as u32
+    ended(w, v, cy, k, negative) as u32
+}
+
+// a⁻¹ for a prime p, and 0 for a = 0
+pub fn inverse(p: u32, a: u32) -> u32
+    requires { ⌜ Invertible p a ⌝ }
+    ensures { λ r. ⌜ Is p r (inv p (el p a)) ⌝ }
+{
+    let v = opposite_of(p);
+    inverse_by(p, v, a)
 }

@@ -75,6 +75,7 @@ module _ (p : ℕ) where
     pub e-is : Combines (Z p) (column-residues m 0) (column-residues m 1) (column-residues m 2) (residues-of p e) (Z p .one) (column-residues m 4)
 
   pub record TimesAsked (v : Column) (u : ℕ) : Type 0 where
+    pub small : p < 2147483648
     pub v-below : ColumnBelow p v
     pub u-below : u < p
 
@@ -85,6 +86,7 @@ module _ (p : ℕ) where
     pub y : el p (r .y) ≡ Z p .mul (el p (v .y)) (el p u)
 
   pub record RowReducedAsked (c : List (List ℕ)) (u : ℕ) : Type 0 where
+    pub small : p < 2147483648
     pub d-below : ColumnBelow p (column-at c 3)
     pub e-below : ColumnBelow p (column-at c 4)
     pub u-below : u < p

@@ -37,17 +37,18 @@ module _ (c : List ℕ) (A : AcceptedCurve c) where
 
 -- g with the modulus that the bytes c have
 abbrev pub ground-at : List ℕ → Ground → Ground
-ground-at c g = record { p = modulus c; unit = g .unit; cube = g .cube }
+ground-at c g = record { p = modulus c; by = g .by; unit = g .unit; cube = g .cube }
 
 module _ {c : List ℕ} {g : Ground} (o : On c g) where
   pub ground-is : g ≡ ground-at c g
-  ground-is = ap (λ (p : ℕ). record { p = p; unit = g .unit; cube = g .cube }) (o .ground .modulus)
+  ground-is = ap (λ (p : ℕ). record { p = p; by = g .by; unit = g .unit; cube = g .cube }) (o .ground .modulus)
 
   -- its curve is that of the bytes
   abbrev pub grounded-at : Grounded (ground-at c g)
   grounded-at =
       record {
         small = omega (arith, accepted-limit c (o .accepted));
+        divides = o .ground .divides;
         ready =
             record {
               setting = setting-of c (o .accepted);

@@ -115,8 +115,9 @@ module _ {p : ℕ} {o : Lower} {n : Divisor} {s t : Column} {i : ℕ} {u v : Tai
               (el p (b .g2)) (k2-is j) (el p (b .f1)) (e4-is j))
               ∙ f0-equals R a0 (C .c4) (C .c7) (us 1) (us 2) (us 3) (us 4) S (vs 2) (vs 3) (vs 4) T (el p (b .f1)) (el p (h .f2)) (el p (h .g1)) (el p (b .g2));
           G0 = B .g0-is
-              ∙ (λ j. less₁ R
-              (more₂-less₂ R (W .t1-is j) (el p (b .f1)) (e3-is j) (O .n6-is j) S (el p (h .g1)) (U .t3-is j) (O .n9-is j) (cross₂ R (el p (h .f2)) (q-is j) (el p (b .g2)) S))
+              ∙ (λ j. more₁-less₂ R
+              (more₁-less₁ R (W .t1-is j) (O .n6-is j) S (el p (h .g1)) (U .t3-is j))
+              (el p (b .f1)) (e3-is j) (O .n9-is j) (cross₂ R (el p (h .f2)) (q-is j) (el p (b .g2)) S)
               (l-is j) (R .add (el p (b .f0)) (U .t1-is j)))
               ∙ g0-equals R a0 (C .c3) (C .c6) (us 1) (us 3) S (vs 1) (vs 3) T (el p (b .f0)) (el p (b .f1)) (el p (h .f2)) (el p (h .g1)) (el p (b .g2));
           F2H2 = ap (R .mul (el p (h .f2))) (L .h2-is ∙ (λ j. more₁ R (el p (h .g1)) (el p i) (less₁ R (el p (b .f0)) (el p (b .g2)) (sym r0-difference j))))

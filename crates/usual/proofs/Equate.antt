@@ -83,7 +83,7 @@ module _ {A : Type 0} (O : Ops A) where
 
   abbrev pub g0-at : A → A → A → A → A → A → A → A → A → A → A → A → A → A → A
   g0-at a0 c3 c6 u1 u3 s v1 v3 t n0 n1 n2 n4 n5 =
-      v1 ⊹ n1 · less-at a0 s u3 v3 ⊹ O .neg c3 · s ⊖ n4 · u3 ⊖ O .neg c6 · (n2 · q-at a0 s t ⊖ n5 · s) ⊖ l-at a0 s · (n0 ⊹ u1)
+      v1 ⊹ O .neg c3 · s ⊖ n4 · u3 ⊹ n1 · less-at a0 s u3 v3 ⊖ O .neg c6 · (n2 · q-at a0 s t ⊖ n5 · s) ⊖ l-at a0 s · (n0 ⊹ u1)
 
 module _ (R : CommRing) where
   open CommRing R using (Car, zero as 𝟘, one as 𝟙, mul as _⊗_)

@@ -2,17 +2,17 @@
 --   Front, front           z and z times the last two columns of the row-reduced form
 --   times-columns          z·s = d for the columns s of the row-reduced form and d of z times this form
 --   factor-is              the factor is z²·f2
---   pivots-zero, second-zero, served       what the function returns
+--   unserved, served       what the function returns
 --   form-below             the columns of the row-reduced form are below p
 use mathlib.Core.Path.{_≡_, refl, sym, _∙_, ap, subst}
-use mathlib.Core.Logic.{inl, inr}
+use mathlib.Core.Logic.{_⊎_, inl, inr}
 use mathlib.Core.Bool.{true, false, true≢false, false≢true}
 use mathlib.Core.List.{List, [], _∷_}
-use Prim.Native.Nat.{ℕ, _≤_, _<_}
+use Prim.Native.Nat.{ℕ, zero, suc, _≤_, _<_}
 use native.Mathlib.Omega.{arith}
 use Rattle.algebra.specs.Ring.{CommRing, Field, Ops, ops}
 use Rattle.algebra.proofs.Norm.{E, E-ops, unit}
-use Rattle.algebra.proofs.Laws.{neg-neg, mul-zero, sub-zero→eq}
+use Rattle.algebra.proofs.Laws.{neg-neg, mul-zero, zero-mul, sub-zero→eq}
 use Rattle.algebra.proofs.Solve.{solve, solve-from, given, _⊞_, _⊠_, ⊟_}
 use Rattle.prime.specs.Prime.{Prime}
 use Rattle.field.specs.Residue.{Z, el}
@@ -34,7 +34,8 @@ use Rattle.matrix.specs.Matrix.{entry, column-at, ColumnBelow, residues-of}
 use Rattle.matrix.specs.Contract.{Combines, column-residues, Cleared, RowReduced, RowReducedOf}
 use Rattle.matrix.proofs.Reduced.{unscaled}
 use Rattle.entries.specs.declared.Lower.{Lower}
-use Rattle.formulas.specs.Contract.{FactorOf, InversesOf}
+use Rattle.formulas.specs.Contract.{FactorsOf, InversesOf}
+use Rattle.formulas.specs.declared.Factors.{Factors}
 use Rattle.formulas.specs.declared.Inverses.{Inverses}
 use Rattle.usual.specs.declared.Tried.{Tried}
 use Rattle.usual.specs.Contract.{IsLower, us-of, vs-of, CompleteOf, Pivoted, Solved, Unsolved, SolvedOf}
@@ -132,6 +133,10 @@ some-lower p o =
     back : (a : Z p .Car) → a ≡ Z p .neg (Z p .neg a)
     back a = sym (neg-neg (Z p) a)
 
+none-or-some : (k : ℕ) → (k ≡ 0) ⊎ (0 < k)
+none-or-some zero = inl refl
+none-or-some (suc k) = inr (omega arith)
+
 -- f2·w = 1 for y = z²·f2, y·w = z² and z·u = 1
 unit-of : (R : CommRing) (z u y w f : R .Car) → R .mul z u ≡ R .one → y ≡ R .mul (R .mul z z) f → R .mul y w ≡ R .mul z z → R .mul f w ≡ R .one
 unit-of R z u y w f h e g =
@@ -146,21 +151,18 @@ module _ (p : ℕ) (prime : Prime p) (o : Lower) (n : Divisor) (m c : List (List
   abbrev K : Field
   K = F p prime
 
-  pub pivots-zero : z ≡ 0 → SolvedOf p o n m (record { served = false; sum = n })
+  pivots-zero : z ≡ 0 → SolvedOf p o n m (record { served = false; sum = n })
   pivots-zero h = record { yes = λ f. absurd (false≢true f); no = λ _. inl (sym (W .z-is .is) ∙ ap (el p) h ∙ el-zero p) }
 
-  module _ (nz : ¬ (z ≡ 0)) where
-    z-nonzero : ¬ (el p z ≡ R .zero)
-    z-nonzero = el-pos p z (lt-of-ne z nz) (W .z-is .below)
+  module _ (f : Factors) (Y : FactorsOf p o (n .n2) z (d .x) (d .y) (e .y) f) where
+    module _ (z-nonzero : ¬ (el p z ≡ R .zero)) where
+      full : ¬ (pivot p m ≡ R .zero)
+      full h = z-nonzero (W .z-is .is ∙ h)
 
-    full : ¬ (pivot p m ≡ R .zero)
-    full f = z-nonzero (W .z-is .is ∙ f)
-
-    module _ (y : ℕ) (Y : FactorOf p o (n .n2) z (d .x) (d .y) (e .y) y) where
       factor-is : (s t : ℕ → R .Car) → Unit-combines p m s 3 → Unit-combines p m t 4 → (C : Curve R) → IsLower p C o
-          → el p y ≡ R .mul (R .mul (el p z) (el p z)) (second-of p n C s t)
+          → el p (f .y) ≡ R .mul (R .mul (el p z) (el p z)) (second-of p n C s t)
       factor-is s t hs ht C O =
-          Y .is
+          Y .y-is .is
           ∙ (λ i. cross₂ R (el p z) (more₁-less₁ R (R .add (t-2 i) (R .neg (s-1 i))) (el p z) (el p (n .n2)) (O .n11-is i) (s-2 i)) (R .mul (O .n12-is i) (s-2 i)) (s-2 i))
           ∙ factor-equals R (C .a0) (C .c8) (el p (n .n2)) (el p z) (s 1) (s 2) (t 2)
         where
@@ -173,7 +175,7 @@ module _ (p : ℕ) (prime : Prime p) (o : Lower) (n : Divisor) (m c : List (List
           t-2 : el p (e .y) ≡ R .mul (el p z) (t 2)
           t-2 = sym (times-columns K _ _ _ t (residues-of p e) _ (el p z) full ht (W .e-is) 2 (omega arith))
 
-      pub second-zero : y ≡ 0 → SolvedOf p o n m (record { served = false; sum = n })
+      second-zero : el p (f .y) ≡ R .zero → SolvedOf p o n m (record { served = false; sum = n })
       second-zero h =
           record {
             yes = λ f. absurd (false≢true f);
@@ -182,7 +184,7 @@ module _ (p : ℕ) (prime : Prime p) (o : Lower) (n : Divisor) (m c : List (List
                 inr (
                   record { pivots = full; s = over d; t = over e; s-is = over-is d _ (W .d-is); t-is = over-is e _ (W .e-is) },
                   λ C O.
-                      no-zero-divisors K (R .mul (el p z) (el p z)) _ (sym (factor-is (over d) (over e) (over-is d _ (W .d-is)) (over-is e _ (W .e-is)) C O) ∙ ap (el p) h ∙ el-zero p)
+                      no-zero-divisors K (R .mul (el p z) (el p z)) _ (sym (factor-is (over d) (over e) (over-is d _ (W .d-is)) (over-is e _ (W .e-is)) C O) ∙ h)
                       (λ f. z-nonzero (no-zero-divisors K (el p z) (el p z) f z-nonzero)),
                 );
           }
@@ -194,50 +196,68 @@ module _ (p : ℕ) (prime : Prime p) (o : Lower) (n : Divisor) (m c : List (List
               → Combines R (column-residues p m 0) (column-residues p m 1) (column-residues p m 2) (over v) (R .one) w
           over-is v w h i = unscaled R (el p z) (K .inv (el p z)) (w i) _ _ _ _ _ _ _ _ _ (h i) (K .mul-inv (el p z) z-nonzero) refl refl refl
 
-      module _ (ny : ¬ (y ≡ 0)) (i : Inverses) (I : InversesOf p z y i) (q : List (List ℕ)) (k : Cleared p m c) (h : RowReducedOf p c (i .one) q) (s t : Column) (es : s ≡ column-at q 3) (et : t ≡ column-at q 4) where
-        y-nonzero : ¬ (el p y ≡ R .zero)
-        y-nonzero = el-pos p y (lt-of-ne y ny) (Y .below)
+    pub unserved : f .zy ≡ 0 → SolvedOf p o n m (record { served = false; sum = n })
+    unserved h = go (none-or-some z)
+      where
+        go : (z ≡ 0) ⊎ (0 < z) → SolvedOf p o n m (record { served = false; sum = n })
+        go (inl none) = pivots-zero none
+        go (inr some) =
+            let nz : ¬ (el p z ≡ R .zero) = el-pos p z some (W .z-is .below) in
+            second-zero nz (no-zero-divisors K (el p z) (el p (f .y)) (sym (Y .zy-is .is) ∙ ap (el p) h ∙ el-zero p) nz)
 
-        Q : RowReduced p m q
-        Q = h m k (ap (λ a. R .mul (el p a) (el p (i .one))) (W .z-at) ∙ I .one-is z-nonzero y-nonzero)
+    module _ (ny : ¬ (f .zy ≡ 0)) (i : Inverses) (I : InversesOf p f i) (q : List (List ℕ)) (k : Cleared p m c) (h : RowReducedOf p c (i .one) q) (s t : Column) (es : s ≡ column-at q 3) (et : t ≡ column-at q 4) where
+      product-nonzero : ¬ (el p (f .zy) ≡ R .zero)
+      product-nonzero = el-pos p (f .zy) (lt-of-ne (f .zy) ny) (Y .zy-is .below)
 
-        s-is : s ≡ Q .d
-        s-is = es ∙ ap (λ n. column-at n 3) (Q .rows)
+      nonzero : ¬ (el p z ≡ R .zero)
+      nonzero g = product-nonzero (Y .zy-is .is ∙ ap (λ a. R .mul a (el p (f .y))) g ∙ zero-mul R (el p (f .y)))
 
-        t-is : t ≡ Q .e
-        t-is = et ∙ ap (λ n. column-at n 4) (Q .rows)
+      y-nonzero : ¬ (el p (f .y) ≡ R .zero)
+      y-nonzero g = product-nonzero (Y .zy-is .is ∙ ap (R .mul (el p z)) g ∙ mul-zero R (el p z))
 
-        pivoted : Pivoted p m
-        pivoted =
+      one-is : R .mul (el p z) (el p (i .one)) ≡ R .one
+      one-is = I .one-is (el p z) (Y .zy-is .is) product-nonzero
+
+      Q : RowReduced p m q
+      Q = h m k (ap (λ a. R .mul (el p a) (el p (i .one))) (W .z-at) ∙ one-is)
+
+      s-is : s ≡ Q .d
+      s-is = es ∙ ap (λ n. column-at n 3) (Q .rows)
+
+      t-is : t ≡ Q .e
+      t-is = et ∙ ap (λ n. column-at n 4) (Q .rows)
+
+      pivoted : Pivoted p m
+      pivoted =
+          record {
+            pivots = full nonzero;
+            s = residues-of p s;
+            t = residues-of p t;
+            s-is = subst (λ v. Unit-combines p m (residues-of p v) 3) (sym s-is) (Q .d-is);
+            t-is = subst (λ v. Unit-combines p m (residues-of p v) 4) (sym t-is) (Q .e-is);
+          }
+
+      pub form-below : ColumnBelow p s × ColumnBelow p t
+      form-below = (subst (ColumnBelow p) (sym s-is) (Q .d-below), subst (ColumnBelow p) (sym t-is) (Q .e-below))
+
+      module _ (sum : Divisor) (M : CompleteOf p o n s t (i .two) sum) where
+        y-is : el p (f .y) ≡ R .mul (R .mul (el p z) (el p z)) (residues p sum 2)
+        unfolding pivoted
+        y-is =
+            factor-is nonzero (residues-of p s) (residues-of p t) (pivoted .s-is) (pivoted .t-is) (some-curve p o) (some-lower p o)
+            ∙ ap (R .mul (R .mul (el p z) (el p z))) (sym (M .second (some-curve p o) (some-lower p o)))
+
+        pub served : SolvedOf p o n m (record { served = true; sum = sum })
+        unfolding pivoted
+        served =
             record {
-              pivots = full;
-              s = residues-of p s;
-              t = residues-of p t;
-              s-is = subst (λ v. Unit-combines p m (residues-of p v) 3) (sym s-is) (Q .d-is);
-              t-is = subst (λ v. Unit-combines p m (residues-of p v) 4) (sym t-is) (Q .e-is);
+              yes =
+                  λ _.
+                  record {
+                    pivoted = pivoted;
+                    shaped = M .shaped;
+                    typical = λ f. y-nonzero (y-is ∙ ap (R .mul (R .mul (el p z) (el p z))) f ∙ mul-zero R _);
+                    equations = λ C O. M .equations C O (unit-of R (el p z) (el p (i .one)) (el p (f .y)) (el p (i .two)) (residues p sum 2) one-is y-is (I .two-is (el p z) (Y .zy-is .is) (Y .zzz-is .is) product-nonzero));
+                  };
+              no = λ f. absurd (true≢false f);
             }
-
-        pub form-below : ColumnBelow p s × ColumnBelow p t
-        form-below = (subst (ColumnBelow p) (sym s-is) (Q .d-below), subst (ColumnBelow p) (sym t-is) (Q .e-below))
-
-        module _ (sum : Divisor) (M : CompleteOf p o n s t (i .two) sum) where
-          y-is : el p y ≡ R .mul (R .mul (el p z) (el p z)) (residues p sum 2)
-          unfolding pivoted
-          y-is =
-              factor-is (residues-of p s) (residues-of p t) (pivoted .s-is) (pivoted .t-is) (some-curve p o) (some-lower p o)
-              ∙ ap (R .mul (R .mul (el p z) (el p z))) (sym (M .second (some-curve p o) (some-lower p o)))
-
-          pub served : SolvedOf p o n m (record { served = true; sum = sum })
-          unfolding pivoted
-          served =
-              record {
-                yes =
-                    λ _.
-                    record {
-                      pivoted = pivoted;
-                      shaped = M .shaped;
-                      typical = λ f. y-nonzero (y-is ∙ ap (R .mul (R .mul (el p z) (el p z))) f ∙ mul-zero R _);
-                      equations = λ C O. M .equations C O (unit-of R (el p z) (el p (i .one)) (el p y) (el p (i .two)) (residues p sum 2) (I .one-is z-nonzero y-nonzero) y-is (I .two-is z-nonzero y-nonzero));
-                    };
-                no = λ f. absurd (true≢false f);
-              }

@@ -1,11 +1,13 @@
 // The sum of two divisors of kind 31 by value, by formulas with one inversion, where they serve: the determinant of the first three columns of the matrix of the
 // two divisors is not 0, and the sum has the kind 31 with f2 not 0.
+use barrett::Divider;
 use basis::Divisor;
 use entries::Lower;
 use ground::Ground;
 use matrix::Column;
 ghost use mathlib.Core.Path.{_≡_};
 ghost use Rattle.algebra.specs.Answers.{Answers};
+ghost use Rattle.barrett.specs.Divider.{Divides};
 ghost use Rattle.basis.specs.Divisor.{numbers-of};
 ghost use Rattle.usual.specs.Trial.{TriedAsked, TriedOf};
 ghost use Rattle.usual.specs.Contract.{CompleteAsked, CompleteOf, MatrixAsked, MatrixOf, SolveAsked, SolvedOf};
@@ -17,15 +19,16 @@ pub struct Tried {
 }
 
 // The divisor of the formulas, from the last two columns of the row-reduced matrix; i is the inverse of its f2.
-fn completed(p: u32, o: Lower, n: Divisor, s: Column, t: Column, i: u32) -> Divisor
+fn completed(p: u32, by: Divider, o: Lower, n: Divisor, s: Column, t: Column, i: u32) -> Divisor
     requires { ⌜ CompleteAsked p o n s t i ⌝ }
+    requires { ⌜ Divides p by ⌝ }
     ensures { λ r. ⌜ CompleteOf p o n s t i r ⌝ }
 {
-    let u = formulas::tail_of(p, n, n.n0, n.n1, n.n2, s);
-    let v = formulas::tail_of(p, n, n.n3, n.n4, n.n5, t);
-    let h = formulas::head_of(p, o, u, v, s.y, t.y);
-    let b = formulas::body_of(p, o, u, v, s.y, h, i);
-    let l = formulas::last_of(p, h, b, i);
+    let u = formulas::tail_of(p, by, n, n.n0, n.n1, n.n2, s);
+    let v = formulas::tail_of(p, by, n, n.n3, n.n4, n.n5, t);
+    let h = formulas::head_of(p, by, o, u, v, s.y, t.y);
+    let b = formulas::body_of(p, by, o, u, v, s.y, h, i);
+    let l = formulas::last_of(p, by, h, b, i);
     Divisor {
         kind: 31,
         n0: b.f0,
@@ -41,33 +44,28 @@ fn completed(p: u32, o: Lower, n: Divisor, s: Column, t: Column, i: u32) -> Divi
 }
 
 // The sum by the matrix m of the divisor n and another one, where the formulas serve.
-fn solved(p: u32, o: Lower, n: Divisor, m: [[u32; 5]; 3]) -> Tried
+fn solved(p: u32, by: Divider, o: Lower, n: Divisor, m: [[u32; 5]; 3]) -> Tried
     requires { ⌜ SolveAsked p o n m ⌝ }
+    requires { ⌜ Divides p by ⌝ }
     ensures { λ r. ⌜ SolvedOf p o n m r ⌝ }
 {
-    let c = matrix::cleared(p, m);
+    let c = matrix::cleared(p, by, m);
     let first = matrix::column_of(c, 0);
     let d = matrix::column_of(c, 3);
     let e = matrix::column_of(c, 4);
     let z = first.one;
-    if z == 0 {
+    let f = formulas::factors_of(p, by, o, n.n2, z, d.x, d.y, e.y);
+    if f.zy == 0 {
         return Tried {
             served: false,
             sum: n,
         };
     }
-    let y = formulas::factor(p, o, n.n2, z, d.x, d.y, e.y);
-    if y == 0 {
-        return Tried {
-            served: false,
-            sum: n,
-        };
-    }
-    let i = formulas::inverses_of(p, z, y);
-    let r = matrix::row_reduced(p, c, i.one);
+    let i = formulas::inverses_of(p, by, f);
+    let r = matrix::row_reduced(p, by, c, i.one);
     let s = matrix::column_of(r, 3);
     let t = matrix::column_of(r, 4);
-    let sum = completed(p, o, n, s, t, i.two);
+    let sum = completed(p, by, o, n, s, t, i.two);
     Tried { served: true, sum }
 }
 
@@ -106,14 +104,15 @@ fn same_numbers(a: Divisor, b: Divisor) -> bool
 }
 
 // The matrix of two divisors: that of a double, where their numbers are the same, and else that of a sum.
-fn matrix_of(p: u32, o: Lower, a: Divisor, b: Divisor) -> [[u32; 5]; 3]
+fn matrix_of(p: u32, by: Divider, o: Lower, a: Divisor, b: Divisor) -> [[u32; 5]; 3]
     requires { ⌜ MatrixAsked p o a b ⌝ }
+    requires { ⌜ Divides p by ⌝ }
     ensures { λ r. ⌜ MatrixOf p o a b r ⌝ }
 {
     if same_numbers(a, b) {
-        return entries::double_matrix(p, o, a);
+        return entries::double_matrix(p, by, o, a);
     }
-    entries::sum_matrix(p, a, b)
+    entries::sum_matrix(p, by, a, b)
 }
 
 // Whether the formulas serve for the sum of two divisors of kind 31, and the sum if they do.
@@ -122,6 +121,6 @@ pub fn sum_tried(g: Ground, a: Divisor, b: Divisor) -> Tried
     ensures { λ r. ⌜ TriedOf g a b r ⌝ }
 {
     let o = entries::lower_of(&g.cube);
-    let m = matrix_of(g.p, o, a, b);
-    solved(g.p, o, a, m)
+    let m = matrix_of(g.p, g.by, o, a, b);
+    solved(g.p, g.by, o, a, m)
 }

@@ -10,11 +10,11 @@ product-requires c κs = search needs
 sub-product-requires : tie.Need-sub-product-requires
 sub-product-requires c κs = search needs
 
-reduce-requires : tie.Need-reduce-requires
-reduce-requires c κs = search needs
+reduce-half-requires : tie.Need-reduce-half-requires
+reduce-half-requires c κs = search needs
 
 returns : tie.Need-returns
-returns c = reduced (c .reduce .ensures) (less-after _ _ (c .before .before .product .ensures) (c .before .sub-product .ensures))
+returns c = reduced (c .reduce-half .ensures) (less-after _ _ (c .before .before .product .ensures) (c .before .sub-product .ensures))
 
 pub cross-spec : {M : Type 1} → statement M
-cross-spec = tie.close (tie.spec product-requires sub-product-requires reduce-requires returns)
+cross-spec = tie.close (tie.spec product-requires sub-product-requires reduce-half-requires returns)

@@ -10,12 +10,12 @@ sub-product-requires c κs = search needs
 sub-product-requires-2 : tie.Need-sub-product-requires-2
 sub-product-requires-2 c κs = search needs
 
-reduce-requires : tie.Need-reduce-requires
-reduce-requires c κs = search needs
+reduce-half-requires : tie.Need-reduce-half-requires
+reduce-half-requires c κs = search needs
 
 returns : tie.Need-returns
-returns c = reduced (c .reduce .ensures) (less-together _ _ _ _ (c .before .before .sub-product .ensures) (c .before .sub-product2 .ensures))
+returns c = reduced (c .reduce-half .ensures) (less-together _ _ _ _ (c .before .before .sub-product .ensures) (c .before .sub-product2 .ensures))
 
 pub less2-spec : {M : Type 1} → statement M
 less2-spec =
-    tie.close (tie.spec sub-product-requires sub-product-requires-2 reduce-requires returns)
+    tie.close (tie.spec sub-product-requires sub-product-requires-2 reduce-half-requires returns)

@@ -42,10 +42,16 @@ sub-requires-4 : tie.Need-sub-requires-4
 sub-requires-4 c κs = search needs
 
 more1-less1-requires : tie.Need-more1-less1-requires
-more1-less1-requires c κs = search needs
+more1-less1-requires c κs =
+    let asked = c .before .before .before .before .before .before .before .before .before .before .before .pre in (
+      record { small = asked .0 .o-below .small; x-below = c .sub4 .ensures .below; a-below = asked .0 .o-below .n11; b-below = asked .0 .n-below .n7; c-below = asked .0 .n-below .n1; d-below = c .before .before .before .before .before .before .before .sub .ensures .below },
+      asked .1,
+    )
 
 more1-requires-2 : tie.Need-more1-requires-2
-more1-requires-2 c κs = let asked = c .before .before .before .before .before .before .before .before .before .before .before .before .pre in record { below-1 = c .before .before .before .before .before .before .before .before .sub .ensures .below; below-2 = asked .o-below .n12; below-3 = asked .n-below .n5 }
+more1-requires-2 c κs =
+    let asked = c .before .before .before .before .before .before .before .before .before .before .before .before .pre in
+    (record { small = asked .0 .o-below .small; below-1 = c .before .before .before .before .before .before .before .before .sub .ensures .below; below-2 = asked .0 .o-below .n12; below-3 = asked .0 .n-below .n5 }, asked .1)
 
 add-requires-3 : tie.Need-add-requires-3
 add-requires-3 c κs = search needs

@@ -42,10 +42,10 @@ more1-less2-requires : tie.Need-more1-less2-requires
 more1-less2-requires c κs = search needs
 
 less1-requires-4 : tie.Need-less1-requires-4
-less1-requires-4 c κs = search needs
+less1-requires-4 c κs = let asked = c .before .before .before .before .before .before .before .before .before .before .before .pre in (record { small = asked .0 .o-below .small; below-1 = asked .0 .v-below .t3; below-2 = c .before .before .before .before .before .before .before .before .before .before .mul .ensures .below; below-3 = asked .0 .u-below .t3 }, asked .1)
 
 less1-requires-5 : tie.Need-less1-requires-5
-less1-requires-5 c κs = let asked = c .before .before .before .before .before .before .before .before .before .before .before .before .pre in record { below-1 = asked .v-below .t4; below-2 = c .before .before .before .before .before .before .before .before .before .before .before .mul .ensures .below; below-3 = asked .u-below .t4 }
+less1-requires-5 c κs = let asked = c .before .before .before .before .before .before .before .before .before .before .before .before .pre in (record { small = asked .0 .o-below .small; below-1 = asked .0 .v-below .t4; below-2 = c .before .before .before .before .before .before .before .before .before .before .before .mul .ensures .below; below-3 = asked .0 .u-below .t4 }, asked .1)
 
 returns : tie.Need-returns
 returns c =

@@ -5,9 +5,6 @@ use borrow.Author.Needs.{needs}
 use Rattle.inversion.proofs.ended.Statement.{statement}
 use Rattle.inversion.proofs.ended.Tie as tie
 
-opposite-requires : tie.Need-opposite-requires
-opposite-requires c κs = search needs
-
 sub-l : tie.Need-sub-l
 sub-l c = search needs
 
@@ -30,7 +27,6 @@ pub ended-spec : {M : Type 1} → statement M
 ended-spec =
     tie.close
     (tie.spec
-    opposite-requires
     sub-l
     halved-requires
     halved-requires-2

@@ -12,7 +12,7 @@ column-of-requires c κs = search needs
 times-requires : tie.Need-times-requires
 times-requires c κs =
     let asked = c .before .pre in
-    record { v-below = subst (ColumnBelow _) (sym (c .column-of .ensures)) (asked .d-below); u-below = asked .u-below }
+    (record { small = asked .0 .small; v-below = subst (ColumnBelow _) (sym (c .column-of .ensures)) (asked .0 .d-below); u-below = asked .0 .u-below }, asked .1)
 
 column-of-requires-2 : tie.Need-column-of-requires-2
 column-of-requires-2 c κs = search needs
@@ -20,7 +20,7 @@ column-of-requires-2 c κs = search needs
 times-requires-2 : tie.Need-times-requires-2
 times-requires-2 c κs =
     let asked = c .before .before .before .pre in
-    record { v-below = subst (ColumnBelow _) (sym (c .column-of2 .ensures)) (asked .e-below); u-below = asked .u-below }
+    (record { small = asked .0 .small; v-below = subst (ColumnBelow _) (sym (c .column-of2 .ensures)) (asked .0 .e-below); u-below = asked .0 .u-below }, asked .1)
 
 rows-requires : tie.Need-rows-requires
 rows-requires c κs = search needs

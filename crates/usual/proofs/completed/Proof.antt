@@ -20,7 +20,7 @@ last-of-requires : tie.Need-last-of-requires
 last-of-requires c κs = search needs
 
 returns : tie.Need-returns
-returns c = complete (c .before .before .before .before .tail-of .ensures) (c .before .before .before .tail-of2 .ensures) (c .before .before .head-of .ensures) (c .before .body-of .ensures) (c .last-of .ensures) (c .before .before .before .before .before .pre .o-below .small)
+returns c = complete (c .before .before .before .before .tail-of .ensures) (c .before .before .before .tail-of2 .ensures) (c .before .before .head-of .ensures) (c .before .body-of .ensures) (c .last-of .ensures) (c .before .before .before .before .before .pre .0 .o-below .small)
 
 pub completed-spec : {M : Type 1} → statement M
 completed-spec = tie.close (tie.spec tail-of-requires tail-of-requires-2 head-of-requires body-of-requires last-of-requires returns)

@@ -1,0 +1,2 @@
+-- What the maker of a divider requires.
+pub mod Contract
