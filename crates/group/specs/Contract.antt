@@ -3,7 +3,7 @@
 --   ideal S r D        its ideal
 --   NegativeAsked, NegativeOf      negative: the ideal of the result is I*
 --   SumAsked, SumIs, SumOf         sum, by_product: it is the reduced ideal of the product
---   FormulasAsked                  by_formulas: two divisors of kind 31
+--   TriedSumOf                     tried: the sum, and what the formulas say of two divisors of kind 31
 --   ProductStarOf                  product_star: it is J*, for the product J
 --   ZeroClass r                    zero_class: kind 0, and no number
 use mathlib.Core.Path.{_≡_}
@@ -18,6 +18,8 @@ use Rattle.ground.specs.declared.Ground.{Ground}
 use Rattle.ground.specs.Ground.{Grounded}
 use Rattle.basis.specs.Divisor.{numbers-of, residues, BasisValue}
 use Rattle.basis.specs.declared.Divisor.{Divisor}
+use Rattle.usual.specs.declared.Tried.{Tried}
+use Rattle.usual.specs.Trial.{TriedOf}
 
 pub record IsDivisor {p : ℕ} (S : Setting p) (r : Divisor) : Type 0 where
   pub kind : Kind
@@ -49,10 +51,10 @@ SumIs {g} {a} {b} A r =
 abbrev pub SumOf : (g : Ground) (a b r : Divisor) → Type 0
 SumOf g a b r = (A : SumAsked g a b) → SumIs A r
 
-pub record FormulasAsked (g : Ground) (a b : Divisor) : Type 0 where
-  pub asked : SumAsked g a b
-  pub a-kind : a .kind ≡ 31
-  pub b-kind : b .kind ≡ 31
+-- what is tried of any two divisors: the sum, and what usual::sum_tried says of two divisors of kind 31
+pub record TriedSumOf (g : Ground) (a b : Divisor) (r : Tried) : Type 0 where
+  pub sum : SumOf g a b (r .sum)
+  pub tried : TriedOf g a b r
 
 abbrev pub ProductStarOf : (g : Ground) (a b r : Divisor) → Type 0
 ProductStarOf g a b r =

@@ -1,7 +1,8 @@
 // Sums and negatives of divisors by value, on the ground of a curve.
 use basis::Divisor;
 use ground::Ground;
-ghost use Rattle.group.specs.Contract.{NegativeAsked, NegativeOf, SumAsked, SumOf, FormulasAsked, ProductStarOf, ZeroClass};
+use usual::Tried;
+ghost use Rattle.group.specs.Contract.{NegativeAsked, NegativeOf, SumAsked, SumOf, TriedSumOf, ProductStarOf, ZeroClass};
 
 // I*, for the ideal I of a.
 pub fn negative(g: Ground, a: Divisor) -> Divisor
@@ -14,30 +15,43 @@ pub fn negative(g: Ground, a: Divisor) -> Divisor
     star::star(g, &t, &d)
 }
 
-// The reduced ideal of the product of the ideals of a and b: by formulas, where these serve for two divisors of kind 31, and else by the product.
+// The reduced ideal of the product of the ideals of a and b, and whether it is by formulas: these are tried for two divisors of kind 31, and else it is by the product.
+pub fn tried(g: Ground, a: Divisor, b: Divisor) -> Tried
+    requires { ⌜ SumAsked g a b ⌝ }
+    ensures { λ r. ⌜ TriedSumOf g a b r ⌝ }
+{
+    if a.kind != 31 {
+        let s = by_product(g, a, b);
+        return Tried {
+            served: false,
+            sum: s,
+        };
+    }
+    if b.kind != 31 {
+        let s = by_product(g, a, b);
+        return Tried {
+            served: false,
+            sum: s,
+        };
+    }
+    let t = usual::sum_tried(g, a, b);
+    if t.served {
+        return t;
+    }
+    let s = by_product(g, a, b);
+    Tried {
+        served: false,
+        sum: s,
+    }
+}
+
+// The reduced ideal of the product of the ideals of a and b.
 pub fn sum(g: Ground, a: Divisor, b: Divisor) -> Divisor
     requires { ⌜ SumAsked g a b ⌝ }
     ensures { λ r. ⌜ SumOf g a b r ⌝ }
 {
-    if a.kind != 31 {
-        return by_product(g, a, b);
-    }
-    if b.kind != 31 {
-        return by_product(g, a, b);
-    }
-    by_formulas(g, a, b)
-}
-
-// The same for two divisors of kind 31.
-fn by_formulas(g: Ground, a: Divisor, b: Divisor) -> Divisor
-    requires { ⌜ FormulasAsked g a b ⌝ }
-    ensures { λ r. ⌜ SumOf g a b r ⌝ }
-{
-    let t = usual::sum_tried(g, a, b);
-    if t.served {
-        return t.sum;
-    }
-    by_product(g, a, b)
+    let t = tried(g, a, b);
+    t.sum
 }
 
 // The same by the product of the ideals. With the zero class the other one is the sum.

@@ -136,8 +136,8 @@ module _ {c : List ℕ} {g : Ground} (o : On c g) {a b : List ℕ} {x y : Diviso
     pub served-at : ServedOn c a b t
     served-at = record { yes = λ f. let m = summed (T .yes f) in (serves (T .yes f) m, m); no = refused }
 
-pub tried-served : {g : Ground} {x y : Divisor} {t : Tried} → ShortGround g → TypicalValue x → TypicalValue y → TriedOf g x y t → ServedOf g x y t
-tried-served {g} {x} {y} {t} s tx ty T c o a b v u =
+pub tried-served : {g : Ground} {x y : Divisor} {t : Tried} → TriedOf g x y t → ShortGround g → TypicalValue x → TypicalValue y → ServedOf g x y t
+tried-served {g} {x} {y} {t} T s tx ty c o a b v u =
     served-at o v u h h′ (subst (λ k. TriedOf k x y t) (ground-is o) T (asked o v u h h′)) s (tx .second) (ty .second)
   where
     h : Given31 c a x

@@ -61,5 +61,5 @@ pub fn served(g: Ground, x: Divisor, y: Divisor) -> Tried
             sum: x,
         };
     }
-    usual::sum_tried(g, x, y)
+    group::tried(g, x, y)
 }

@@ -14,7 +14,7 @@ product-star-requires : tie.Need-product-star-requires
 product-star-requires c κs = search needs
 
 negative-requires : tie.Need-negative-requires
-negative-requires c κs = star-divisor (c .product-star .ensures) (c .before .before .before .before .before .pre)
+negative-requires c κs = search (needs, star-divisor (c .product-star .ensures))
 
 returns-3 : tie.Need-returns-3
 returns-3 c = sum-of (c .before .product-star .ensures) (c .negative .ensures)

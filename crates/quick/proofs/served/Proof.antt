@@ -1,6 +1,5 @@
 -- `quick::served` meets its contract: the request's conditions are tested, and then the formulas are tried.
 use borrow.Author.Needs.{needs}
-use Rattle.group.proofs.Formulas.{formulas-tried}
 use Rattle.quick.proofs.Serving.{denied, granted, not-short, not-typical-first, not-typical-second, tried-served}
 use Rattle.quick.proofs.served.Statement.{statement}
 use Rattle.quick.proofs.served.Tie as tie
@@ -21,23 +20,20 @@ is-typical-requires-2 : tie.Need-is-typical-requires-2
 is-typical-requires-2 c κs = search needs
 
 returns-3 : tie.Need-returns-3
-returns-3 c = not-typical-second _ (c .before .is-typical2 .ensures .fails (denied _ (c .if3 .taken)))
+returns-3 c = search (not-typical-first, not-typical-second, c .before .is-typical2 .ensures .fails (denied _ (c .if3 .taken)))
 
-sum-tried-requires : tie.Need-sum-tried-requires
-sum-tried-requires c κs =
-    formulas-tried
-    (record {
-      asked = c .before .before .before .before .before .before .pre;
-      a-kind = c .before .before .before .is-typical .ensures .holds (granted _ (c .before .before .if2 .left)) .kind;
-      b-kind = c .before .is-typical2 .ensures .holds (granted _ (c .if3 .left)) .kind;
-    })
+tried-requires : tie.Need-tried-requires
+tried-requires c κs = search needs
 
 returns-4 : tie.Need-returns-4
 returns-4 c =
-    tried-served (c .before .before .before .before .before .before .short-form .ensures .holds (granted _ (c .before .before .before .before .before .if1 .left))) (c .before .before .before .before .is-typical .ensures .holds (granted _ (c .before .before .before .if2 .left)))
-    (c .before .before .is-typical2 .ensures .holds (granted _ (c .before .if3 .left))) (c .sum-tried .ensures)
+    let third = c .before .before in
+    let second = third .before .before in
+    let first = second .before .before in
+    tried-served (c .tried .ensures .tried) (first .short-form .ensures .holds (granted _ (second .before .if1 .left))) (second .is-typical .ensures .holds (granted _ (third .before .if2 .left)))
+    (third .is-typical2 .ensures .holds (granted _ (c .before .if3 .left)))
 
 pub served-spec : {M : Type 1} → statement M
 served-spec =
     tie.close
-    (tie.spec short-form-requires returns is-typical-requires returns-2 is-typical-requires-2 returns-3 sum-tried-requires returns-4)
+    (tie.spec short-form-requires returns is-typical-requires returns-2 is-typical-requires-2 returns-3 tried-requires returns-4)
