@@ -1,7 +1,8 @@
 /* Times of the usual sum: what a sum and a double by value take inside the calls of libc34.a, against the same formulas
    in C (quick.c) and against the plain sum in C (core.c), in one run: quick_times. ns of CPU time, least of many rounds.
-   By value: a list sum less a count of the same list, for each record; a multiple by 2^62 less one by 1, for each
-   doubling. All results are compared. */
+   By value: for a sum the multiple by 2^62 - 1 less that by 2^61, for each of its 61 sums; for a double the multiple by
+   2^61 less that by 1, for each doubling. In a list: a list sum less a count of the same list, for each record. All
+   results are compared. */
 #define _POSIX_C_SOURCE 199309L
 #include "c34.h"
 #include "core.h"
@@ -16,7 +17,7 @@
 #define COMPILER "an unnamed compiler"
 #endif
 
-enum { RECORDS = 800, DOUBLINGS = 62, ROUNDS = 300, CURVE = 44, RECORD = 40 };
+enum { RECORDS = 800, DOUBLINGS = 61, ROUNDS = 300, CURVE = 44, RECORD = 40 };
 
 struct input {
     uint32_t p, c[9], n[9];
@@ -102,12 +103,29 @@ static void least(double *best, double t)
         *best = t;
 }
 
+/* ns of one multiple. */
+static double multiple_time(const uint8_t *curve, const uint8_t *record, int64_t n, uint8_t *out)
+{
+    double t = now();
+    if (c34_multiple(curve, CURVE, record, RECORD, n, out, RECORD) != RECORD)
+        fail("a multiple is not of kind 31");
+    return now() - t;
+}
+
+static void same(const struct nine *s, const uint8_t *out, const char *what)
+{
+    uint8_t copy[RECORD];
+    put(copy, RECORD, C34_KIND_31, s->n, 9);
+    if (memcmp(copy, out, RECORD) != 0)
+        fail(what);
+}
+
 static void one(const struct input *in)
 {
     static uint8_t list[RECORDS * RECORD];
     static struct nine nine[RECORDS];
     static struct record record[RECORDS];
-    uint8_t curve[CURVE], out[RECORD], copy[RECORD];
+    uint8_t curve[CURVE], out[RECORD], other[RECORD];
     uint32_t numbers[10] = {in->p};
     struct quick_curve q;
     struct curve general = make_curve(in->p, 1, in->c);
@@ -127,7 +145,7 @@ static void one(const struct input *in)
         record[i].kind = 31;
         memcpy(record[i].n, nine[i].n, sizeof record[i].n);
     }
-    double sums = 1e18, count = 1e18, twice = 1e18, single = 1e18, plain = 1e18, c_sum[QUICK_VERSIONS], c_double[QUICK_VERSIONS];
+    double sums = 1e18, count = 1e18, ones = 1e18, twice = 1e18, single = 1e18, plain = 1e18, c_sum[QUICK_VERSIONS], c_double[QUICK_VERSIONS];
     for (int k = 0; k < QUICK_VERSIONS; k++)
         c_sum[k] = c_double[k] = 1e18;
     for (int r = 0; r < ROUNDS; r++) {
@@ -146,18 +164,11 @@ static void one(const struct input *in)
                 if (!quick_version[k].sum(&q, &nine[i], &s, &s))
                     fail("a sum is not served");
             least(&c_sum[k], now() - t);
-            put(copy, RECORD, C34_KIND_31, s.n, 9);
-            if (memcmp(copy, out, RECORD) != 0)
-                fail("a list sum differs from that of the library");
+            same(&s, out, "a list sum differs from that of the library");
         }
-        t = now();
-        if (c34_multiple(curve, CURVE, list, RECORD, INT64_C(1) << DOUBLINGS, out, RECORD) != RECORD)
-            fail("a multiple is not of kind 31");
-        least(&twice, now() - t);
-        t = now();
-        if (c34_multiple(curve, CURVE, list, RECORD, 1, copy, RECORD) != RECORD)
-            fail("a multiple by 1 is not of kind 31");
-        least(&single, now() - t);
+        least(&ones, multiple_time(curve, list, (INT64_C(1) << (DOUBLINGS + 1)) - 1, other));
+        least(&single, multiple_time(curve, list, 1, other));
+        least(&twice, multiple_time(curve, list, INT64_C(1) << DOUBLINGS, out));
         for (int k = 0; k < QUICK_VERSIONS; k++) {
             struct nine s = nine[0];
             t = now();
@@ -165,9 +176,7 @@ static void one(const struct input *in)
                 if (!quick_version[k].twice(&q, &s, &s))
                     fail("a double is not served");
             least(&c_double[k], now() - t);
-            put(copy, RECORD, C34_KIND_31, s.n, 9);
-            if (memcmp(copy, out, RECORD) != 0)
-                fail("a multiple differs from that of the library");
+            same(&s, out, "a multiple differs from that of the library");
         }
         if (r < 3) {
             struct record s = record[0];
@@ -183,10 +192,12 @@ static void one(const struct input *in)
         least(&best_sum, c_sum[k] / (RECORDS - 1));
         least(&best_double, c_double[k] / DOUBLINGS);
     }
-    double by_value = (sums - count) / (RECORDS - 1), doubled = (twice - single) / DOUBLINGS;
+    double by_value = (ones - twice) / DOUBLINGS, doubled = (twice - single) / DOUBLINGS;
+    double in_list = (sums - count) / (RECORDS - 1);
     printf("| proved, by value | %10u | %6.0f | %6.0f |\n", in->p, by_value, doubled);
     printf("| its ratio to the best C | %10u | %6.2f | %6.2f |\n", in->p, by_value / best_sum, doubled / best_double);
-    printf("| its ratio to the plain sum in C, %.0f ns | %10u | %6.3f | |\n", plain / (RECORDS - 1), in->p, by_value / (plain / (RECORDS - 1)));
+    printf("| proved, in a list | %10u | %6.0f | |\n", in->p, in_list);
+    printf("| its ratio to the plain sum in C, %.0f ns | %10u | %6.3f | |\n", plain / (RECORDS - 1), in->p, in_list / (plain / (RECORDS - 1)));
     printf("| list sum, multiple, per operation, to the best C and the checks | %10u | %6.2f | %6.2f |\n", in->p,
            (sums / RECORDS) / (best_sum + count / RECORDS), twice / (best_double * DOUBLINGS + single));
 }
