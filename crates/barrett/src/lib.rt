@@ -1,5 +1,5 @@
-// Sums of products modulo p, for every p below 2^31. Four products at most are added to a number below p or taken from it, in 64 bits without a division, and the sum is
-// reduced once, by a reciprocal of p.
+// Sums of products modulo p, for every p below 2^31. Four products at most are added to a number below p or taken from it, in 64 bits, and the sum is reduced once, without
+// a division: two products by the factor of the divider, more by its reciprocal.
 ghost use mathlib.Core.Path.{_≡_};
 ghost use Prim.Native.Nat.{_<_};
 ghost use Rattle.field.specs.Residue.{Z, el};
