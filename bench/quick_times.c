@@ -120,6 +120,16 @@ static void same(const struct nine *s, const uint8_t *out, const char *what)
         fail(what);
 }
 
+/* The multiple by 2^(DOUBLINGS + 1) - 1, by doubling and adding. */
+static struct nine all_ones(const struct quick_curve *q, int version, const struct nine *a)
+{
+    struct nine sum = *a, power = *a;
+    for (int i = 0; i < DOUBLINGS; i++)
+        if (!quick_version[version].twice(q, &power, &power) || !quick_version[version].sum(q, &sum, &power, &sum))
+            fail("a sum or a double is not served");
+    return sum;
+}
+
 static void one(const struct input *in)
 {
     static uint8_t list[RECORDS * RECORD];
@@ -167,7 +177,12 @@ static void one(const struct input *in)
             same(&s, out, "a list sum differs from that of the library");
         }
         least(&ones, multiple_time(curve, list, (INT64_C(1) << (DOUBLINGS + 1)) - 1, other));
+        for (int k = 0; k < QUICK_VERSIONS; k++) {
+            struct nine s = all_ones(&q, k, &nine[0]);
+            same(&s, other, "a multiple of sums differs from that of the library");
+        }
         least(&single, multiple_time(curve, list, 1, other));
+        same(&nine[0], other, "a multiple by 1 differs from the record");
         least(&twice, multiple_time(curve, list, INT64_C(1) << DOUBLINGS, out));
         for (int k = 0; k < QUICK_VERSIONS; k++) {
             struct nine s = nine[0];
@@ -197,6 +212,7 @@ static void one(const struct input *in)
     printf("| proved, by value | %10u | %6.0f | %6.0f |\n", in->p, by_value, doubled);
     printf("| its ratio to the best C | %10u | %6.2f | %6.2f |\n", in->p, by_value / best_sum, doubled / best_double);
     printf("| proved, in a list | %10u | %6.0f | |\n", in->p, in_list);
+    printf("| its ratio to the best C | %10u | %6.2f | |\n", in->p, in_list / best_sum);
     printf("| its ratio to the plain sum in C, %.0f ns | %10u | %6.3f | |\n", plain / (RECORDS - 1), in->p, in_list / (plain / (RECORDS - 1)));
     printf("| list sum, multiple, per operation, to the best C and the checks | %10u | %6.2f | %6.2f |\n", in->p,
            (sums / RECORDS) / (best_sum + count / RECORDS), twice / (best_double * DOUBLINGS + single));
