@@ -1,1 +1,2 @@
 // Theory only: commutative rings, fields and the ring solver are in specs/ and proofs/.
+#![tactic(auto)]

@@ -1,5 +1,7 @@
 // Eight of the nine calls of document 01; the comparison is in the crate `comparison`. Each reads the curve, makes its ground, has the work
 // done on it, and returns what the call is for or minus the number of the first cause of refusal.
+#![tactic(auto)]
+
 ghost use Rattle.calls.specs.Call.{CheckCurve, CheckDivisor, Sum, Double, Negative, Multiple, ListSum, Count};
 
 use lists::TallyAnswer;

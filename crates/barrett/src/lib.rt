@@ -1,5 +1,7 @@
 // Sums of products modulo p, for every p below 2^31. Four products at most are added to a number below p or taken from it, in 64 bits, and the sum is reduced once, without
 // a division: two products by the factor of the divider, more by its reciprocal.
+#![tactic(auto)]
+
 ghost use Rattle.std.specs.Prelude.{◌≡◌, ◌<◌};
 ghost use Rattle.field.specs.Residue.{Z, el};
 ghost use Rattle.field.specs.Contract.{Is};

@@ -81,7 +81,7 @@ module _ {p : ℕ} {κ : Kind} {r : Divisor} {t : List (List ℕ)} {d : List ℕ
   module _ {cube : List ℕ} (R : Ready p cube) where
     pub triple_open : Open p cube t d R → ¬ IsBasis R.setting.curve κ (residues p r)
     triple_open o =
-        B.open-not-basis (F p R.setting.prime) R.setting.curve R.setting.nonzero κ (residues p r) o.j (omega (arith, o.j_below)) o.rest o.s
+        B.open_not_basis (F p R.setting.prime) R.setting.curve R.setting.nonzero κ (residues p r) o.j (omega (arith, o.j_below)) o.rest o.s
         (ap ((ring R.setting).mul (y R.setting.curve)) (sym (triple-member R.setting.curve o.j (omega (arith, o.j_below)))) ∙ o.split)
         (there R.setting o.s o.spanned)
         o.nonzero

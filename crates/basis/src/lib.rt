@@ -1,4 +1,6 @@
 // Divisors by value: the kind and the nine numbers of a record, 0 past the kind's count. Their triples, and the basis test.
+#![tactic(auto)]
+
 ghost use Rattle.std.specs.Prelude.{◌≡◌, ◌<◌};
 ghost use Rattle.divisor.specs.Kind.{k0, k11, k21, k22, k31};
 ghost use Rattle.vector.specs.Vector.{width};

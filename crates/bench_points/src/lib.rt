@@ -1,4 +1,6 @@
 // The two calls on points, for tests and benchmarks in C. In C a slice is a pointer and its number of elements.
+#![tactic(auto)]
+
 ghost use Rattle.point.specs.PointCall.{PointsSum, PointsOf};
 
 // The sum of the kind 11 records of pairs of coordinates.

@@ -1,4 +1,6 @@
 // The short form of a record without the checks of the curve and of the basis, for bench/short.c to time.
+#![tactic(auto)]
+
 ghost use Rattle.bench_short.specs.Contract.{Shortens};
 
 // Writes the short form of a record whose numbers are below p, and returns its length; 0 for other bytes and for a buffer under 40 bytes.

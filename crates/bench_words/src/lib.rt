@@ -1,4 +1,6 @@
 // Two walks over a pair of strings of bytes, for bench/words.c to time: by words, as the comparison is, and by bytes, as it was before.
+#![tactic(auto)]
+
 ghost use Rattle.std.specs.Prelude.{◌≡◌};
 ghost use Rattle.algebra.specs.Answers.{Answers};
 ghost use Rattle.words.specs.Words.{words};

@@ -1,4 +1,6 @@
 // Longer sums of products modulo p, in which products are added and taken away in turn, reduced once.
+#![tactic(auto)]
+
 ghost use Rattle.field.specs.Residue.{Z, el};
 ghost use Rattle.field.specs.Contract.{Is};
 ghost use Rattle.barrett.specs.Divider.{Divides};

@@ -1,4 +1,6 @@
 // Curve and divisor records in bytes: their numbers by value, and whether these are below p. specs/ says what is checked.
+#![tactic(auto)]
+
 ghost use Rattle.std.specs.Prelude.{◌≡◌, [], ◌∷◌, ℕ, ◌<◌, ◌≤◌, length};
 ghost use Rattle.algebra.specs.Answers.{Answers};
 ghost use Rattle.basis.specs.Divisor.{numbers_of};

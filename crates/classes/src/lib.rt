@@ -1,5 +1,7 @@
 // Sums, negatives and multiples of divisors in bytes, on the ground of a curve. Each function that ends in `_on` reads its divisors in
 // document 01's order and gives the result by value, or the number of the first cause of refusal.
+#![tactic(auto)]
+
 ghost use Rattle.std.specs.Prelude.{◌++◌};
 ghost use Rattle.group.specs.Contract.{NegativeAsked};
 ghost use Rattle.calls.specs.Class.{IsSum, IsNegative, IsMultiple};

@@ -1,1 +1,2 @@
 // Theory only: columns of two records of kind 31, in proofs/.
+#![tactic(auto)]

@@ -1,4 +1,6 @@
 // Combinations typeof.u.I + typeof.v.J of the ideals I and J of two divisors, with polynomials u and v.
+#![tactic(auto)]
+
 ghost use Rattle.std.specs.Prelude.{◌<◌};
 ghost use Rattle.combination.specs.Contract.{MemberOf, CombinationAsked, CombinationOf, AddAsked, Added};
 

@@ -1,4 +1,6 @@
 // The two comparisons of divisors: whether they have the same bytes, and how many pairs of their words are compared. One walk serves both.
+#![tactic(auto)]
+
 ghost use Rattle.calls.specs.Call.{Compare, CompareWords};
 ghost use Rattle.comparison.specs.Met.{WalkRead};
 

@@ -1,5 +1,6 @@
 // The counting program as it is run: standard input is read to its end, and the report on it printed. No contract can speak of what a system
 // call read or wrote, so these functions have no `ensures`; what is printed for what was read is said by the contract of `counting::report_read`.
+#![tactic(auto)]
 
 // Reads and drops some bytes of standard input; false at its end.
 fn skip_some() -> bool {

@@ -1,4 +1,6 @@
 // The counting program: the report on an input, put into a lent buffer; crate report, specs/Report.antt, says what that is.
+#![tactic(auto)]
+
 ghost use Rattle.std.specs.Prelude.{◌≡◌, ◌≤◌, min, length};
 ghost use Rattle.record.specs.Curve.{curve_size};
 ghost use Rattle.report.specs.Report.{Report};

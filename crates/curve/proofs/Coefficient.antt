@@ -61,7 +61,7 @@ module _ {k : CommRing} (C : Curve k) where
   pub at_ext : {g h : El} → ((i j : ℕ) → j ≤ 2 → at C i j g ≡ at C i j h) → g ≡ h
   unfolding Coordinate part at
   at_ext e =
-      M.normal-path k[x] (t0 C) (t1 C) (t2 C) (poly_path k (λ i. e i 0 (lit≤ tt))) (poly_path k (λ i. e i 1 (lit≤ tt))) (poly_path k (λ i. e i 2 (lit≤ tt)))
+      M.normal_path k[x] (t0 C) (t1 C) (t2 C) (poly_path k (λ i. e i 0 (lit≤ tt))) (poly_path k (λ i. e i 1 (lit≤ tt))) (poly_path k (λ i. e i 2 (lit≤ tt)))
 
   coef-t0 : (f : k[x].Car) (i : ℕ) → coef k (k[x].mul (t0 C) f) i ≡ weigh k (C.c0 ∷ C.c1 ∷ C.c3 ∷ C.c6 ∷ C.a0 ∷ []) (coef k f) i
   unfolding t0
@@ -78,21 +78,21 @@ module _ {k : CommRing} (C : Curve k) where
   pub at-y_0 : (i : ℕ) (g : El) → at C i 0 (y C ⊗ g) ≡ -ₖ weigh k (C.c0 ∷ C.c1 ∷ C.c3 ∷ C.c6 ∷ C.a0 ∷ []) (λ n. at C n 2 g) i
   unfolding Coordinate part at y
   at-y_0 i g =
-      ap (λ f. coef k f i) (M.component-y-0 k[x] (t0 C) (t1 C) (t2 C) g)
+      ap (λ f. coef k f i) (M.component-y_0 k[x] (t0 C) (t1 C) (t2 C) g)
       ∙ P.coef-neg k _ i
       ∙ ap -ₖ◌ (coef-t0 (part C 2 g) i)
 
   pub at-y_1 : (i : ℕ) (g : El) → at C i 1 (y C ⊗ g) ≡ at C i 0 g +ₖ -ₖ weigh k (C.c2 ∷ C.c4 ∷ C.c7 ∷ []) (λ n. at C n 2 g) i
   unfolding Coordinate part at y
   at-y_1 i g =
-      ap (λ f. coef k f i) (M.component-y-1 k[x] (t0 C) (t1 C) (t2 C) g)
+      ap (λ f. coef k f i) (M.component-y_1 k[x] (t0 C) (t1 C) (t2 C) g)
       ∙ P.coef-add k _ _ i
       ∙ ap (λ u. at C i 0 g +ₖ u) (P.coef-neg k _ i ∙ ap -ₖ◌ (coef-t1 (part C 2 g) i))
 
   pub at-y_2 : (i : ℕ) (g : El) → at C i 2 (y C ⊗ g) ≡ at C i 1 g +ₖ -ₖ weigh k (C.c5 ∷ C.c8 ∷ []) (λ n. at C n 2 g) i
   unfolding Coordinate part at y
   at-y_2 i g =
-      ap (λ f. coef k f i) (M.component-y-2 k[x] (t0 C) (t1 C) (t2 C) g)
+      ap (λ f. coef k f i) (M.component-y_2 k[x] (t0 C) (t1 C) (t2 C) g)
       ∙ P.coef-add k _ _ i
       ∙ ap (λ u. at C i 1 g +ₖ u) (P.coef-neg k _ i ∙ ap -ₖ◌ (coef-t2 (part C 2 g) i))
 
@@ -136,12 +136,12 @@ module _ {k : CommRing} (C : Curve k) where
   at-constant_0 : (c : Car) → at C 0 0 (constant C c) ≡ c
   unfolding Coordinate part at in_x constant
   at-constant_0 c =
-      ap (λ f. coef k f 0) (M.component-embed-0 k[x] (t0 C) (t1 C) (t2 C) (const k c)) ∙ P.coef-const-head k c
+      ap (λ f. coef k f 0) (M.component-embed_0 k[x] (t0 C) (t1 C) (t2 C) (const k c)) ∙ P.coef-const-head k c
 
   pub at-constant-x : (c : Car) (i : ℕ) → at C (suc i) 0 (constant C c) ≡ 𝟘
   unfolding Coordinate part at in_x constant
   at-constant-x c i =
-      ap (λ f. coef k f (suc i)) (M.component-embed-0 k[x] (t0 C) (t1 C) (t2 C) (const k c)) ∙ P.coef-const-next k c i
+      ap (λ f. coef k f (suc i)) (M.component-embed_0 k[x] (t0 C) (t1 C) (t2 C) (const k c)) ∙ P.coef-const-next k c i
 
   pub at-constant-y : (c : Car) (i j : ℕ) → at C i (suc j) (constant C c) ≡ 𝟘
   unfolding Coordinate part at in_x constant

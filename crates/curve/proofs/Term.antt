@@ -93,10 +93,10 @@ module _ {k : CommRing} (C : Curve k) where
 
   at-vector : (f : ℕ → Car) (N : ℕ) (h : (n : ℕ) → N ≤ n → f n ≡ 𝟘) (i j : ℕ) → j ≤ 2 → at C i j (vector C f N h) ≡ f (pole i j)
   unfolding Coordinate part at vector
-  at-vector f N h i zero l = ap (λ p. coef k p i) (M.component-triple-0 (Poly k) (t0 C) (t1 C) (t2 C) _ _ _) ∙ P.coef-poly k _ _ i
-  at-vector f N h i (suc zero) l = ap (λ p. coef k p i) (M.component-triple-1 (Poly k) (t0 C) (t1 C) (t2 C) _ _ _) ∙ P.coef-poly k _ _ i
+  at-vector f N h i zero l = ap (λ p. coef k p i) (M.component-triple_0 (Poly k) (t0 C) (t1 C) (t2 C) _ _ _) ∙ P.coef-poly k _ _ i
+  at-vector f N h i (suc zero) l = ap (λ p. coef k p i) (M.component-triple_1 (Poly k) (t0 C) (t1 C) (t2 C) _ _ _) ∙ P.coef-poly k _ _ i
   at-vector f N h i (suc (suc zero)) l =
-      ap (λ p. coef k p i) (M.component-triple-2 (Poly k) (t0 C) (t1 C) (t2 C) _ _ _) ∙ P.coef-poly k _ _ i
+      ap (λ p. coef k p i) (M.component-triple_2 (Poly k) (t0 C) (t1 C) (t2 C) _ _ _) ∙ P.coef-poly k _ _ i
   at-vector f N h i (suc (suc (suc j))) l = absurd (omega arith)
 
   pub coefficient-vector : (f : ℕ → Car) (N : ℕ) (h : (n : ℕ) → N ≤ n → f n ≡ 𝟘) (n : ℕ) → IsPole n → coefficient C n (vector C f N h) ≡ f n

@@ -1,4 +1,6 @@
 // The divider of p: what divides by p without a division, made once for a curve.
+#![tactic(auto)]
+
 ghost use Rattle.barrett.specs.Divider.{Divides};
 ghost use Rattle.divider.specs.Contract.{DividerAsked};
 

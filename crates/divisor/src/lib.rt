@@ -1,1 +1,2 @@
 // Theory only: the kinds of divisor records and their ideals are in specs/ and proofs/.
+#![tactic(auto)]

@@ -1,5 +1,7 @@
 // Polynomials in one coordinate that are 0 at the points of a divisor: in x, and in y at a given x. Their coefficients come from the numbers
 // of the divisor; for a divisor of kind 31 these are f0, f1, f2, g0, g1, g2, h0, h1, h2.
+#![tactic(auto)]
+
 ghost use Rattle.algebra.specs.Ring.{CommRing};
 ghost use Rattle.field.specs.Residue.{Z, el};
 ghost use Rattle.divisor.specs.Kind.{k31};

@@ -1,5 +1,7 @@
 // The matrix of two divisors of kind 31, with numbers f0, f1, f2, g0, g1, g2, h0, h1, h2: columns 1 to 5 are f, g, h, x·f and x·g of the first modulo the ideal of
 // the second, at 1, x and y. For the double of a divisor they are those of three polynomials that take the place of f, g and h.
+#![tactic(auto)]
+
 ghost use Rattle.std.specs.Prelude.{◌≡◌};
 ghost use Rattle.barrett.specs.Divider.{Divides};
 ghost use Rattle.barrett.specs.Contract.{Below₆};

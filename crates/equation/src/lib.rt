@@ -1,4 +1,6 @@
 // Curves by their coefficients: the vector of y³, and the test whether the curve is nonsingular.
+#![tactic(auto)]
+
 ghost use Rattle.algebra.specs.Answers.{Answers};
 ghost use Rattle.algebra.specs.Ring.{CommRing};
 ghost use Rattle.nonsingular.specs.Nonsingular.{Nonsingular};

@@ -1,5 +1,7 @@
 // Arithmetic modulo p on numbers below p, for every p below 2^32. Each function ensures that its result is below p and
 // what its residue is in the ring Z p.
+#![tactic(auto)]
+
 ghost use Rattle.field.specs.Residue.{Z, el};
 ghost use Rattle.field.specs.Contract.{Below₁, Below₂, Below₃, Is};
 

@@ -1,5 +1,7 @@
 // Writes results of the arithmetic modulo p at the least and the largest moduli. A line has p, a, b and c, and then a + b, a − b, −a,
 // a·b, a·b + c, c − a·b and the inverse of a, which is 0 where a is 0.
+#![tactic(auto)]
+
 fn number(n: u32) {
     io::write_all(1, b" ");
     io::print_decimal(1, n as u64);

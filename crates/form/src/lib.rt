@@ -1,4 +1,6 @@
 // The form of curve and divisor records in bytes: their size, their kind and their kind's length. Crate record, specs/, says what is refused.
+#![tactic(auto)]
+
 ghost use Rattle.algebra.specs.Answers.{Answers};
 ghost use Rattle.record.specs.Cause.{Sized};
 ghost use Rattle.record.specs.Curve.{curve_form};

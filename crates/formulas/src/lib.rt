@@ -1,6 +1,8 @@
 // The formulas for the sum of two divisors of kind 31 from the row_reduced form of their matrix. The product of their ideals has the elements
 // u = x³ + u5·y² + u4·xy + u3·x² + u2·y + u1·x + u0 and v = x²y + v5·y² + v4·xy + v3·x² + v2·y + v1·x + v0, and the sum has the polynomials f, g and h for which
 // f·v = u·(g + a0·u5·f) and f2·h = (y + g1)·f − (x + f1 − g2)·g; comparing coefficients gives its numbers.
+#![tactic(auto)]
+
 ghost use Rattle.barrett.specs.Divider.{Divides};
 ghost use Rattle.formulas.specs.Contract.{FactorsAsked, FactorsOf, TailAsked, TailOf, HeadAsked, HeadOf, BodyAsked, BodyOf, LastAsked, LastOf, InversesAsked, InversesOf};
 

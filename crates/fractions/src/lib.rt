@@ -1,5 +1,7 @@
 // Curves with fractions: a record of fractions and a modulus, reduced to a curve record. Crate record, specs/Fractions.antt, says what is
 // refused and which numbers the curve record has.
+#![tactic(auto)]
+
 ghost use Rattle.std.specs.Prelude.{◌≡◌};
 ghost use Rattle.algebra.specs.Answers.{Answers};
 ghost use Rattle.record.specs.Fractions.{FractionsForm};

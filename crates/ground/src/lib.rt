@@ -1,4 +1,6 @@
 // The ground of the arithmetic on a curve, by value: the modulus p, its divider, the inverse of −a0 and the vector of y³.
+#![tactic(auto)]
+
 ghost use Rattle.ground.specs.Ground.{GroundAsked, GroundOf};
 
 use barrett::Divider;

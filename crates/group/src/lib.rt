@@ -1,4 +1,6 @@
 // Sums and negatives of divisors by value, on the ground of a curve.
+#![tactic(auto)]
+
 ghost use Rattle.group.specs.Contract.{NegativeAsked, NegativeOf, SumAsked, SumOf, TriedSumOf, ProductStarOf, ZeroClass};
 
 use basis::Divisor;

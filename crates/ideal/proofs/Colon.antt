@@ -33,7 +33,7 @@ module _ (R : CommRing) where
   colon_ideal f I = record {
     nil = λ h m. (zero, simp ring);
     sum = λ {a} {b} ka kb h m. ((ka h m).0 ⊕ (kb h m).0, laws.add-mul R a b h ∙ rw ((ka h m).1, (kb h m).1) (simp ring));
-    times = λ r {a} ka h m. (r ⊗ (ka h m).0, laws.times-assoc R r a h ∙ rw (ka h m).1 (simp ring));
+    times = λ r {a} ka h m. (r ⊗ (ka h m).0, laws.times_assoc R r a h ∙ rw (ka h m).1 (simp ring));
   }
 
   pub colon_self : (f : Car) (I : Car → Type 0) → Colon R f I f
@@ -162,7 +162,7 @@ module _ {R : CommRing} (P : Poles R) {f : R.Car} {d : ℕ} (pf : HasPole P f d)
       colon_colon g = (lowering P (ideal_space P ideal) (ideal_space P (colon_ideal R f (Colon R f I))) inside leads g, inside g)
         where
           inside : (g : Car) → I g → Colon R f (Colon R f I) g
-          inside g m h k = ((k g m).0, laws.times-comm R g h ∙ (k g m).1)
+          inside g m h k = ((k g m).0, laws.times_comm R g h ∙ (k g m).1)
 
           at : (n : ℕ) → Lead P (Colon R f (Colon R f I)) n → Dec (Lead P I n) → Split d n → Lead P I n
           at n l (yes have) b = have

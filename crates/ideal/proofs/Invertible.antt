@@ -58,8 +58,8 @@ module _ (R : CommRing) where
   -- If u is in I·(u : I), then I·(u : I) = (u).
   colon_product : {I : Car → Type 0} {u : Car} → IsIdeal R I → Product R I (Colon R u I) u → SameIdeal R (Product R I (Colon R u I)) (Multiple R u)
   colon_product {I} {u} i m h = (
-    product_in R (multiple-ideal u) (λ a k ia mk. ((mk a ia).0, laws.times-comm R a k ∙ (mk a ia).1)),
-    λ (q, p). subst (Product R I (Colon R u I)) (laws.times-comm R q u ∙ sym p) ((product-ideal R i).times q m),
+    product_in R (multiple-ideal u) (λ a k ia mk. ((mk a ia).0, laws.times_comm R a k ∙ (mk a ia).1)),
+    λ (q, p). subst (Product R I (Colon R u I)) (laws.times_comm R q u ∙ sym p) ((product-ideal R i).times q m),
   )
 
   -- (e q)·(e' q') = (e e')·(q q')
@@ -116,7 +116,7 @@ module _ {R : CommRing} (P : Poles R) where
     pub invertible-whole : {X : Car → Type 0} → IsIdeal R X → ((h : Car) → I h → Product R I X h) → (h : Car) → X h
     invertible-whole {X} x f h =
         invertible-member x
-        (λ a b ia mb. subst (Scaled R v.e X) (laws.times-comm R h (a ⊗ b)) ((scaled_ideal R v.e x).times h (product_scaled x mb (f a ia))))
+        (λ a b ia mb. subst (Scaled R v.e X) (laws.times_comm R h (a ⊗ b)) ((scaled_ideal R v.e x).times h (product_scaled x mb (f a ia))))
 
     pub invertible_colon : {u : Car} → I u → SameIdeal R (Product R I (Colon R u I)) (Multiple R u)
     invertible_colon {u} mu = colon_product R v.ideal whole
@@ -180,7 +180,7 @@ module _ {R : CommRing} (P : Poles R) where
 
       single : (j j' : Car) → v.I' j' → (i : Car) × I i × (q.a ⊗ i ≡ q.b ⊗ j) → Product R I (Scaled R q.a v.I') (j ⊗ j' ⊗ q.b)
       single j j' mj' (i, mi, p) =
-          subst (Product R I (Scaled R q.a v.I')) (moved p ∙ laws.times-comm R q.b (j ⊗ j')) (product_of R mi (j', mj', refl))
+          subst (Product R I (Scaled R q.a v.I')) (moved p ∙ laws.times_comm R q.b (j ⊗ j')) (product_of R mi (j', mj', refl))
 
       back : (h : Car) → Multiple R (q.b ⊗ v.e) h → Product R I (Scaled R q.a v.I') h
       back h (m, p) =
@@ -197,7 +197,7 @@ module _ {R : CommRing} (P : Poles R) where
     where
       split : (m s : Car) → Intersection R I J m → IdealSum R I J s → Product R I J (m ⊗ s)
       split m s (mi, mj) (a, b, ma, mb, p) =
-          subst (Product R I J) (ap (λ t. t ⊕ m ⊗ b) (laws.times-comm R a m) ∙ sym (R.mul_add m a b) ∙ ap (λ t. m ⊗ t) (sym p))
+          subst (Product R I J) (ap (λ t. t ⊕ m ⊗ b) (laws.times_comm R a m) ∙ sym (R.mul_add m a b) ∙ ap (λ t. m ⊗ t) (sym p))
           ((product-ideal R i).sum (product_of R ma mj) (product_of R mi mb))
 
       parts : IsIdeal R (Product R (Intersection R I J) (IdealSum R I J))
@@ -207,7 +207,7 @@ module _ {R : CommRing} (P : Poles R) where
           → Scaled R v.e (Product R (Intersection R I J) (IdealSum R I J)) (g ⊗ g' ⊗ (x ⊗ y))
       at {x} {y} {g} {g'} mx my mg mg' (a, p) (b, p') = (
         x ⊗ a ⊗ g,
-        product_of R (subst I (laws.times-comm R a x) (i.times a mx), subst J (laws.times-comm R b y ∙ sym same) (j.times b my)) mg,
+        product_of R (subst I (laws.times_comm R a x) (i.times a mx), subst J (laws.times_comm R b y ∙ sym same) (j.times b my)) mg,
         (simp ring) ∙ ap (λ t. x ⊗ t ⊗ g) p ∙ (simp ring),
       )
         where

@@ -155,7 +155,7 @@ module _ {R : CommRing} (P : Poles R) where
               go k (q, e') = (q, cancel P (pole-nonzero P pf) (cross e e'))
 
           back : (h : Car) → Colon R r.f' (Colon R r.f J) h → Multiple R r.f' (h ⊗ r.f) → (j : Car) × J j × (r.f' ⊗ j ≡ r.f ⊗ h)
-          back h k (j, e) = (j, (colon_colon P pf i base r.least.member j).0 (λ u mu. go u (k u mu)), sym e ∙ laws.times-comm R h r.f)
+          back h k (j, e) = (j, (colon_colon P pf i base r.least.member j).0 (λ u mu. go u (k u mu)), sym e ∙ laws.times_comm R h r.f)
             where
               go : (u : Car) → Multiple R r.f' (h ⊗ u) → Multiple R r.f (j ⊗ u)
-              go u (q, e') = (q, cancel P (pole-nonzero P pf') (cross (laws.times-comm R r.f h ∙ e) (laws.times-comm R u h ∙ e')))
+              go u (q, e') = (q, cancel P (pole-nonzero P pf') (cross (laws.times_comm R r.f h ∙ e) (laws.times_comm R u h ∙ e')))

@@ -22,13 +22,13 @@ module _ (R : CommRing) where
   neg-second-more a b c = laws.add_left_comm R (⊖ a) b (a ⊕ c) ∙ ap (λ t. b ⊕ t) (laws.neg_add_cancel R a c)
 
   pub add-third : (a b c : Car) → a ⊕ (b ⊕ (c ⊕ ⊖ a)) ≡ b ⊕ c
-  add-third a b c = ap (λ t. a ⊕ t) (sym (add_assoc b c (⊖ a))) ∙ laws.neg-far R a (b ⊕ c)
+  add-third a b c = ap (λ t. a ⊕ t) (sym (add_assoc b c (⊖ a))) ∙ laws.neg_far R a (b ⊕ c)
 
   pub neg-third : (a b c : Car) → ⊖ a ⊕ (b ⊕ (c ⊕ a)) ≡ b ⊕ c
   neg-third a b c = ap (λ t. ⊖ a ⊕ t) (sym (add_assoc b c a)) ∙ neg-second a (b ⊕ c)
 
   pub add-third-more : (a b c d : Car) → a ⊕ (b ⊕ (c ⊕ (⊖ a ⊕ d))) ≡ b ⊕ (c ⊕ d)
-  add-third-more a b c d = ap (λ t. a ⊕ t) (sym (add_assoc b c (⊖ a ⊕ d))) ∙ laws.neg-add-far R a (b ⊕ c) d ∙ add_assoc b c d
+  add-third-more a b c d = ap (λ t. a ⊕ t) (sym (add_assoc b c (⊖ a ⊕ d))) ∙ laws.neg-add_far R a (b ⊕ c) d ∙ add_assoc b c d
 
   pub neg-third-more : (a b c d : Car) → ⊖ a ⊕ (b ⊕ (c ⊕ (a ⊕ d))) ≡ b ⊕ (c ⊕ d)
   neg-third-more a b c d = ap (λ t. ⊖ a ⊕ t) (sym (add_assoc b c (a ⊕ d))) ∙ neg-second-more a (b ⊕ c) d ∙ add_assoc b c d

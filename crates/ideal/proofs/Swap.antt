@@ -64,7 +64,7 @@ module _ {R : CommRing} (P : Poles R) where
   swap_half {I} {u} {f} nu mf h (a, ma, e) = go (ma f mf)
     where
       go : Multiple R u (a ⊗ f) → Scaled R u (Colon R f I) h
-      go (q, p) = (q, λ i mi. at i (ma i mi), e ∙ laws.times-comm R f a ∙ p)
+      go (q, p) = (q, λ i mi. at i (ma i mi), e ∙ laws.times_comm R f a ∙ p)
         where
           at : (i : Car) → Multiple R u (a ⊗ i) → Multiple R f (q ⊗ i)
           at i (q', p') =
@@ -86,7 +86,7 @@ module _ {R : CommRing} (P : Poles R) where
           go (q, p) = (q, λ i mi. at q e i (k i mi), e)
             where
               e : g ≡ a ⊗ q
-              e = cancel P nb (laws.times-comm R b g ∙ p ∙ simp ring)
+              e = cancel P nb (laws.times_comm R b g ∙ p ∙ simp ring)
 
       back : (q : Car) → g ≡ a ⊗ q → (i : Car) → Multiple R b (q ⊗ i) → Multiple R (a ⊗ b) (g ⊗ i)
       back q e i (q', p') = (q', ap (λ t. t ⊗ i) e ∙ R.mul_assoc a q i ∙ ap (λ t. a ⊗ t) p' ∙ sym (R.mul_assoc a b q'))
@@ -95,15 +95,15 @@ module _ {R : CommRing} (P : Poles R) where
       → SameIdeal R (IdealSum R (Scaled R b (Colon R a I)) (Scaled R a (Colon R b J))) (Colon R (a ⊗ b) (Intersection R I J))
   colon_meet {I} {J} {a} {b} pa pb i j ma mb =
       same_trans R
-      (sum_same R (same_sym R (subst (λ t. SameIdeal R (Colon R t I) (Scaled R b (Colon R a I))) (laws.times-comm R b a) (colon_scale (pole-nonzero P pb) (pole-nonzero P pa) ma)))
+      (sum_same R (same_sym R (subst (λ t. SameIdeal R (Colon R t I) (Scaled R b (Colon R a I))) (laws.times_comm R b a) (colon_scale (pole-nonzero P pb) (pole-nonzero P pa) ma)))
       (same_sym R (colon_scale (pole-nonzero P pa) (pole-nonzero P pb) mb)))
-      (colon_intersection P (pole-mul P pa pb) i j (subst I (laws.times-comm R b a) (i.ideal.times b ma)) (j.ideal.times a mb))
+      (colon_intersection P (pole-mul P pa pb) i j (subst I (laws.times_comm R b a) (i.ideal.times b ma)) (j.ideal.times a mb))
 
   pub meet_based : {I J : Car → Type 0} → BasedIdeal P I → BasedIdeal P J → BasedIdeal P (Intersection R I J)
   meet_based {I} {J} i j = go i.lead j.lead
     where
       go : Lead P I i.pole → Lead P J j.pole → BasedIdeal P (Intersection R I J)
-      go (a, ma, pa) (b, mb, pb) = intersection_based P (pole-mul P pa pb) i j (subst I (laws.times-comm R b a) (i.ideal.times b ma)) (j.ideal.times a mb)
+      go (a, ma, pa) (b, mb, pb) = intersection_based P (pole-mul P pa pb) i j (subst I (laws.times_comm R b a) (i.ideal.times b ma)) (j.ideal.times a mb)
 
   pub scaled_equivalent : {e : Car} (I : Car → Type 0) → ¬ (e ≡ zero) → Equivalent R (Scaled R e I) I
   scaled_equivalent {e} I n = record {
@@ -152,7 +152,7 @@ module _ {R : CommRing} (P : Poles R) where
       pole = pole-mul P pv pu
 
       inside : J (v ⊗ u)
-      inside = subst J (laws.times-comm R u v) (j.ideal.times u mv)
+      inside = subst J (laws.times_comm R u v) (j.ideal.times u mv)
 
       inside' : Colon R u N (v ⊗ u)
       inside' = c.ideal.times v (colon_self R u N)

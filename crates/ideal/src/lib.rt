@@ -1,1 +1,2 @@
 // Theory only: ideals of a ring with pole numbers are in specs/ and proofs/.
+#![tactic(auto)]

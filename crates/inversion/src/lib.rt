@@ -1,4 +1,6 @@
 // The inverse modulo a prime p of a number below p, by the binary algorithm of Euclid.
+#![tactic(auto)]
+
 ghost use Rattle.field.specs.Residue.{Z, el};
 ghost use Rattle.field.specs.Contract.{Invertible, Is};
 ghost use Rattle.field.specs.Inverse.{inverse as inv};

@@ -61,7 +61,7 @@ module _ {k : CommRing} (C : Curve k) (n : ℕ → k.Car) (κ : Kind) (K : Certi
   combine_zero = combine_in (generated_ideal R [])
 
   forms_in : Every (λ g. I (at g)) (forms κ)
-  forms_in = every_source I at (forms κ) (subst (Every I) (sym (value.forms-at C n κ)) (generated_each R (polynomials C κ n)))
+  forms_in = every_source I at (forms κ) (subst (Every I) (sym (value.forms_at C n κ)) (generated_each R (polynomials C κ n)))
 
   -- what is zero on the curve
   record Vanishes (r : Relation) : Type 0 where
@@ -108,7 +108,7 @@ module _ {k : CommRing} (C : Curve k) (n : ℕ → k.Car) (κ : Kind) (K : Certi
     where
       polynomials_taken : Every (λ g. Multiple R f (g ⊗ at m.element)) (polynomials C κ n)
       polynomials_taken =
-          subst (Every (λ g. Multiple R f (g ⊗ at m.element))) (value.forms-at C n κ)
+          subst (Every (λ g. Multiple R f (g ⊗ at m.element))) (value.forms_at C n κ)
           (every_image (λ g. Multiple R f (g ⊗ at m.element)) at (forms κ) (divides-each m.element (forms κ) m.quotients u))
 
   combination_in : (ess : List (List E)) (ms : List Member) → Every (λ m. J (at m.element)) ms → Product R I J (at (combination (forms κ) ess ms))

@@ -1,1 +1,2 @@
 // Theory only: the ideals of records on a nonsingular curve are invertible; see specs/ and proofs/.
+#![tactic(auto)]

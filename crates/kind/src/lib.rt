@@ -1,4 +1,6 @@
 // The kinds of divisor records by their numbers, and how many numbers a record of each kind has.
+#![tactic(auto)]
+
 ghost use Rattle.algebra.specs.Answers.{Answers};
 ghost use Rattle.kind.specs.Kinds.{Known, CountOf};
 

@@ -1,5 +1,7 @@
 // The functional Λ of a monic f, by its values: lam[n] is Λ(mono n). Λ is 0 below d + 5, 1 at d + 5 and 0 at every multiple of
 // f, d the degree of f.
+#![tactic(auto)]
+
 ghost use Rattle.lambda.specs.Lambda.{ValueAsked, Valued, ValueAtAsked, ValueAt, OppositeAsked, OppositeOf, FunctionalAsked, FunctionalOf};
 
 // What the parts of the star of a triple share: the modulus, the inverse of −a0, and the degrees of its members f, u and w.

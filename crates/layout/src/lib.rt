@@ -1,5 +1,7 @@
 // The bytes of a record: reading little-endian numbers in a slice of bytes.
 // specs/Layout.antt says what the numbers and the bytes are.
+#![tactic(auto)]
+
 ghost use Rattle.std.specs.Prelude.{◌≡◌, ◌+◌, ◌≤◌, ◌<◌, length, get_or};
 ghost use Rattle.layout.specs.Contract.{Read2, Read4};
 

@@ -1,4 +1,6 @@
 // Writes a record of three numbers into a buffer of 20 bytes, and prints its length, what is read of the buffer and whether it has certain bytes.
+#![tactic(auto)]
+
 fn say(n: u64) {
     io::print_decimal(1, n);
     io::write_all(1, b"\n");

@@ -1,4 +1,6 @@
 // The points of a divisor, on the ground of a curve: found by a scan of x and of y, in rising order, and put into a slice as pairs.
+#![tactic(auto)]
+
 ghost use Rattle.listing.specs.Contract.{StandsAsked, Stands, PutAsked, Put, ListAsked, Listed, AtAsked, ListedAt};
 
 use basis::Divisor;

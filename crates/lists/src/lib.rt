@@ -1,5 +1,7 @@
 // Lists of divisors in bytes, on the ground of a curve: their sum, and how many of them have a kind. Each record is read as its own part of the
 // list, from wherever it starts.
+#![tactic(auto)]
+
 ghost use Rattle.std.specs.Prelude.{[], ◌∷◌, ◌≤◌, length};
 ghost use Rattle.record.specs.Curve.{modulus, equation};
 ghost use Rattle.record.specs.Listed.{list_stage, list_limit};

@@ -1,5 +1,7 @@
 // A matrix of three rows of five residues modulo p, an array of arrays by value, and its row_reduced form by cofactors. The columns are a, b, c, d, e; the
 // determinant of the first three is z = a·(b × c), and z·d = (d·(b × c))·a + (d·(c × a))·b + (d·(a × b))·c, e likewise.
+#![tactic(auto)]
+
 ghost use Rattle.std.specs.Prelude.{◌≡◌, ◌<◌};
 ghost use Rattle.field.specs.Residue.{Z, el};
 ghost use Rattle.field.specs.Contract.{Is};

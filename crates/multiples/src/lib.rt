@@ -1,4 +1,6 @@
 // Multiples of divisors by value, on the ground of a curve, by doubling and adding.
+#![tactic(auto)]
+
 ghost use Rattle.group.specs.Contract.{NegativeAsked};
 ghost use Rattle.multiples.specs.Copies.{MultipleOf};
 

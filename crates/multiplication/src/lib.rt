@@ -1,4 +1,6 @@
 // Multiples of a vector v by powers of y: y·v and y²·v, by the vector of y³. Loops end at the degree.
+#![tactic(auto)]
+
 ghost use Rattle.multiplication.specs.Contract.{TimesYAsked, TimesY, YMultiplesAsked, YMultiples, ShiftAsked, Shifted};
 
 // y·v for v below top, where cube is y³.

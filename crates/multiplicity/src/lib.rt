@@ -1,4 +1,6 @@
 // Whether the span of one triple lies inside that of another, and in how high a power of it.
+#![tactic(auto)]
+
 ghost use Rattle.multiplicity.specs.Contract.{MemberAsked, MemberTest, InsideAsked, InsideTest, MultiplicityAsked, MultiplicityFound};
 
 // Is v, which is below top, in the span of the triple (s, e)?

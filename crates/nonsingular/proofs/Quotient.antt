@@ -73,29 +73,29 @@ module _ {k : CommRing} (C : Curve k) where
       solve_from (Coordinate C) 4 (λ y a b c. given unit (y ⊠ (y ⊠ y)) (⊟ (c ⊠ (y ⊠ y) ⊞ b ⊠ y ⊞ a)) ∷ []) (λ y a b c. y ⊠ y ⊠ y ⊞ c ⊠ (y ⊠ y) ⊞ b ⊠ y ⊞ a) (λ y a b c. nil) tt
       (y C) (in_x C (t0 C)) (in_x C (t1 C)) (in_x C (t2 C)) (y-cubed, tt)
 
-  at_spread : (g : El) → K.at-quadratic (over_x C) (y C) (part C 0 g) (part C 1 g) (part C 2 g) ≡ g
+  at_spread : (g : El) → K.at_quadratic (over_x C) (y C) (part C 0 g) (part C 1 g) (part C 2 g) ≡ g
   unfolding Coordinate in_x y part
   at_spread g = sym (M.spread (Poly k) (t0 C) (t1 C) (t2 C) g)
 
   pub part_0 : (a b c : (Poly k).Car) → part C 0 (of_parts C a b c) ≡ a
   unfolding Coordinate part of_parts
-  part_0 a b c = M.component-triple-0 (Poly k) (t0 C) (t1 C) (t2 C) a b c
+  part_0 a b c = M.component-triple_0 (Poly k) (t0 C) (t1 C) (t2 C) a b c
 
   pub part_1 : (a b c : (Poly k).Car) → part C 1 (of_parts C a b c) ≡ b
   unfolding Coordinate part of_parts
-  part_1 a b c = M.component-triple-1 (Poly k) (t0 C) (t1 C) (t2 C) a b c
+  part_1 a b c = M.component-triple_1 (Poly k) (t0 C) (t1 C) (t2 C) a b c
 
   pub part_2 : (a b c : (Poly k).Car) → part C 2 (of_parts C a b c) ≡ c
   unfolding Coordinate part of_parts
-  part_2 a b c = M.component-triple-2 (Poly k) (t0 C) (t1 C) (t2 C) a b c
+  part_2 a b c = M.component-triple_2 (Poly k) (t0 C) (t1 C) (t2 C) a b c
 
   part-zero : (j : ℕ) → part C j 𝟘 ≡ (Poly k).zero
   unfolding Coordinate part
   part-zero j = M.component-zero (Poly k) (t0 C) (t1 C) (t2 C) j
 
-  pub at-of_parts : (a b c : (Poly k).Car) → K.at-quadratic (over_x C) (y C) a b c ≡ of_parts C a b c
+  pub at-of_parts : (a b c : (Poly k).Car) → K.at_quadratic (over_x C) (y C) a b c ≡ of_parts C a b c
   at-of_parts a b c =
-      sym (λ i. K.at-quadratic (over_x C) (y C) (part_0 a b c i) (part_1 a b c i) (part_2 a b c i)) ∙ at_spread (of_parts C a b c)
+      sym (λ i. K.at_quadratic (over_x C) (y C) (part_0 a b c i) (part_1 a b c i) (part_2 a b c i)) ∙ at_spread (of_parts C a b c)
 
   independent : K.Independent (over_x C) (y C)
   independent a b c e =
@@ -105,11 +105,11 @@ module _ {k : CommRing} (C : Curve k) where
       zero = sym (at-of_parts a b c) ∙ e
 
   pub normal_quadratic : (a b c : (Poly k).Car) → (normal C).map (quadratic (Poly k) a b c) ≡ of_parts C a b c
-  normal_quadratic a b c = K.eval-quadratic (over_x C) (y C) a b c ∙ at-of_parts a b c
+  normal_quadratic a b c = K.eval_quadratic (over_x C) (y C) a b c ∙ at-of_parts a b c
 
   pub normal_onto : (g : El) → (f : Pol) × ((normal C).map f ≡ g)
   normal_onto g =
-      (quadratic (Poly k) (part C 0 g) (part C 1 g) (part C 2 g), K.eval-quadratic (over_x C) (y C) _ _ _ ∙ at_spread g)
+      (quadratic (Poly k) (part C 0 g) (part C 1 g) (part C 2 g), K.eval_quadratic (over_x C) (y C) _ _ _ ∙ at_spread g)
 
   pub normal_kernel : (f : Pol) → ((normal C).map f ≡ 𝟘) ↔ ((q : Pol) × (f ≡ q ·ₚ F C))
   normal_kernel f = (λ e. subst (λ m. (q : Pol) × (f ≡ q ·ₚ m)) (sym F-cubic) (cubics.0 e), λ m. cubics.1 (m.0, m.1 ∙ ap (λ g. m.0 ·ₚ g) F-cubic))

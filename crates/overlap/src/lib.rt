@@ -1,5 +1,7 @@
 // The calls on the common part of two divisors: the common part, the common multiple, and the sum by the second road. They read the same inputs and
 // refuse them alike; one function reads and answers for all three.
+#![tactic(auto)]
+
 ghost use Rattle.std.specs.Prelude.{◌++◌};
 ghost use Rattle.record.specs.Curve.{curve_stages};
 ghost use Rattle.calls.specs.Answer.{Writes};

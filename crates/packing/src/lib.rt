@@ -1,5 +1,7 @@
 // Numbers of w bits packed one behind the other in a slice of bytes: shifts and masks place each number across the borders of bytes. specs/Packing.antt says
 // which bits stand where.
+#![tactic(auto)]
+
 ghost use Rattle.std.specs.Prelude.{◌≡◌, ◌-◌, ◌≤◌, length, take};
 ghost use Rattle.packing.specs.Packing.{packed, filled};
 ghost use Rattle.packing.specs.Contract.{LengthOf, laid, PackAsked, Begun};

@@ -1,4 +1,6 @@
 // Pairs of coordinates, on the ground of a curve: the divisor of a point by value, and what is refused.
+#![tactic(auto)]
+
 ghost use Rattle.std.specs.Prelude.{◌<◌};
 ghost use Rattle.algebra.specs.Answers.{Answers};
 ghost use Rattle.classes.specs.Found.{Curved, OnCurves};

@@ -1,5 +1,7 @@
 // The common part and the common multiple of two divisors by value, on the ground of a curve: I + J, and the reduced ideal of I ∩ J, for their
 // ideals I and J.
+#![tactic(auto)]
+
 ghost use Rattle.group.specs.Contract.{SumAsked};
 ghost use Rattle.combination.specs.Contract.{CombinationAsked};
 ghost use Rattle.parts.specs.Contract.{PlacesOf, LeastOf, OverlapOf, PartOf, MeetAsked, MeetOf, MultipleOf, InsideAsked, ApartOf};

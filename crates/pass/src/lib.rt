@@ -1,4 +1,6 @@
 // One pass over a list: the sum and the tallies of its records by value.
+#![tactic(auto)]
+
 ghost use Rattle.std.specs.Prelude.{[], ◌∷◌, ◌≤◌, length};
 ghost use Rattle.record.specs.Curve.{modulus, equation};
 ghost use Rattle.record.specs.Listed.{list_stage, list_limit};

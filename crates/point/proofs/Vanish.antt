@@ -65,7 +65,7 @@ module _ {k : CommRing} (C : Curve k) (a b : k.Car) (n : ℕ → k.Car) (n0 : n 
     forms_in : Every (λ e. IdealOf C κ m (values.at C m e)) (forms κ)
     forms_in =
         every_source (IdealOf C κ m) (values.at C m) (forms κ)
-        (subst (Every (IdealOf C κ m)) (sym (values.forms-at C m κ)) (generated_each (Coordinate C) (polynomials C κ m)))
+        (subst (Every (IdealOf C κ m)) (sym (values.forms_at C m κ)) (generated_each (Coordinate C) (polynomials C κ m)))
 
     pub forms_vanish : Every (λ e. value k e (a ∷ b ∷ values.numbers C m) ≡ k.zero) (forms κ)
     forms_vanish =

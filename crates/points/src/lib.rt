@@ -1,4 +1,6 @@
 // The two calls on points, for programs in Rattle: from points to a class and back. Crate point, specs/PointCall.antt, says what they answer.
+#![tactic(auto)]
+
 ghost use Rattle.std.specs.Prelude.{map, ◌∷◌};
 ghost use Rattle.point.specs.Point.{point_record};
 ghost use Rattle.point.specs.PointCall.{pairs, numbers_stage, pairs_stages, PointsSum, PointsOf};

@@ -3,6 +3,8 @@
 //
 // A call in the input is one byte, 0 for points_sum and 1 for points_of; three numbers of four bytes, the lengths in bytes of the curve and of
 // the second argument, and the length of the slice for the result; the curve; and the second argument, in which points are numbers of four bytes.
+#![tactic(auto)]
+
 ghost use Rattle.std.specs.Prelude.{◌+◌, ◌*◌, ◌≤◌, length};
 
 use whole::Whole;

@@ -1,1 +1,2 @@
 // Theory only: polynomials in one and two variables are in specs/ and proofs/.
+#![tactic(auto)]

@@ -1,4 +1,6 @@
 // A list of sum calls, carried out on a pool of records in lent memory: slots of 40 bytes, slot m from place 40·m on.
+#![tactic(auto)]
+
 ghost use Rattle.std.specs.Prelude.{length};
 ghost use Rattle.calls.specs.Call.{Sum};
 ghost use Rattle.slots.specs.Held.{at_slot};

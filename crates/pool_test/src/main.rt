@@ -1,4 +1,6 @@
 // Lists of sum calls on a pool of five records on the curve E, and the record that they leave, compared with what the list call writes.
+#![tactic(auto)]
+
 ghost use Rattle.std.specs.Prelude.{◌≡◌, ◌≤◌, length};
 ghost use Rattle.worked.specs.Table.{E};
 ghost use Rattle.pool.specs.Run.{Valid};

@@ -1,1 +1,2 @@
 // Theory only: powers of ideals are in specs/ and proofs/.
+#![tactic(auto)]

@@ -1,1 +1,2 @@
 // Theory only: the field of p elements is in specs/.
+#![tactic(auto)]

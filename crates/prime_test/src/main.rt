@@ -1,5 +1,7 @@
 // Writes whether each of some numbers is a prime: the small ones, Carmichael numbers, squares and products of primes at the
 // borders of the table's parts, and the largest primes below 2³¹ and 2³².
+#![tactic(auto)]
+
 fn say(n: u32) {
     io::print_decimal(1, n as u64);
     if prime::is_prime(n) {

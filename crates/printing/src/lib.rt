@@ -1,4 +1,6 @@
 // The lines of a report put into a lent buffer; crate report, specs/Report.antt, says what the lines are. Each function that puts something writes from place `at` on and returns the place behind it.
+#![tactic(auto)]
+
 ghost use Rattle.std.specs.Prelude.{◌++◌, ◌+◌, ◌*◌, ◌≤◌, length};
 ghost use Rattle.text.specs.Ascii.{ascii};
 ghost use Rattle.text.specs.Decimal.{decimal};

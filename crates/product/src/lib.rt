@@ -1,4 +1,6 @@
 // The product of the spans of two triples.
+#![tactic(auto)]
+
 ghost use Rattle.product.specs.Contract.{ProductAsked, Multiplied, PutAsked, ProductsPut};
 
 // The triple (t, d) becomes that of the product of two triples' spans. The products with the second triple's member of

@@ -1,4 +1,6 @@
 // The usual sum, quicker (document 02, 2026-08): by formulas with one inversion where these serve under the request's conditions, and else by the plain sum.
+#![tactic(auto)]
+
 ghost use Rattle.algebra.specs.Answers.{Answers};
 ghost use Rattle.group.specs.Contract.{SumAsked, SumOf};
 ghost use Rattle.quick.specs.Served.{ShortGround, TypicalValue, ServedOf};

@@ -1,4 +1,6 @@
 // The calls of document 02, 2026-08: the quick sum, the quick double, and whether the formulas serve.
+#![tactic(auto)]
+
 ghost use Rattle.std.specs.Prelude.{◌++◌};
 ghost use Rattle.group.specs.Contract.{SumAsked};
 ghost use Rattle.calls.specs.Class.{IsSum};

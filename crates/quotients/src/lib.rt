@@ -1,4 +1,6 @@
 // The quotients of nine fractions modulo p, of a record of fractions. Crate record, specs/Fractions.antt, says what the fractions are.
+#![tactic(auto)]
+
 ghost use Rattle.std.specs.Prelude.{◌<◌};
 ghost use Rattle.field.specs.Residue.{el};
 ghost use Rattle.field.specs.Contract.{Is};

@@ -1,4 +1,6 @@
 // Curve and divisor records in bytes: reading, refusing and writing. specs/ says what is accepted and what is refused.
+#![tactic(auto)]
+
 ghost use Rattle.std.specs.Prelude.{◌≡◌, ◌≤◌};
 ghost use Rattle.algebra.specs.Answers.{Answers};
 ghost use Rattle.prime.specs.Prime.{Prime};

@@ -1,4 +1,6 @@
 // What a call returns and writes: minus the number of a refusal, or the record of the divisor that was found and its length.
+#![tactic(auto)]
+
 ghost use Rattle.std.specs.Prelude.{◌≡◌};
 ghost use Rattle.calls.specs.Answer.{minus};
 ghost use Rattle.reply.specs.Written.{Writable, Wrote};

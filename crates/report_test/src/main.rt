@@ -1,4 +1,6 @@
 // Reports on inputs that are refused for each cause, on the empty list and on others.
+#![tactic(auto)]
+
 ghost use Rattle.std.specs.Prelude.{◌≤◌, length};
 
 // Prints the report on an input.

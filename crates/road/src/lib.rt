@@ -1,5 +1,7 @@
 // The sum of two divisors by value by the second road, on the ground of a nonsingular curve: by their common multiple and common part. The degree
 // of a divisor, how many monomials remain, is the tens of its kind.
+#![tactic(auto)]
+
 ghost use Rattle.parts.specs.Contract.{InsideAsked};
 ghost use Rattle.road.specs.Contract.{RoadAsked, RoadOf, DoubleOf};
 

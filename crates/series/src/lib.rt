@@ -1,1 +1,2 @@
 // Theory only: power series over a commutative ring are in specs/ and proofs/.
+#![tactic(auto)]

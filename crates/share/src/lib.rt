@@ -1,4 +1,6 @@
 // The line of the share put into a lent buffer; crate report, specs/Report.antt, says what the line is. Each function that puts something writes from place `at` on and returns the place behind it.
+#![tactic(auto)]
+
 ghost use Rattle.std.specs.Prelude.{◌≡◌, ◌+◌, ◌≤◌, ◌<◌};
 ghost use Rattle.text.specs.Put.{Placed};
 ghost use Rattle.report.specs.Report.{rounded, per_cent, share_line};

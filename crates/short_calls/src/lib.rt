@@ -1,4 +1,6 @@
 // The calls that move a record to the short form and back: what is read and answered.
+#![tactic(auto)]
+
 ghost use Rattle.short.specs.ShortCall.{Shorten, Lengthen};
 ghost use Rattle.short_calls.specs.Contract.{ShortWritable, ShortWrote};
 

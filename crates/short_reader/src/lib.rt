@@ -1,4 +1,6 @@
 // Short records in bytes: reading and refusing. Crate short, specs/, says what is accepted and what is refused.
+#![tactic(auto)]
+
 ghost use Rattle.std.specs.Prelude.{◌<◌, ◌≤◌};
 ghost use Rattle.algebra.specs.Answers.{Answers};
 ghost use Rattle.ground.specs.Ground.{Grounded, AtGround};

@@ -1,4 +1,6 @@
 // The short record of a divisor by value, written in a slice of bytes. Crate short, specs/Short.antt, says what its bytes are.
+#![tactic(auto)]
+
 ghost use Rattle.short_writer.specs.Contract.{ShortWriteAsked, ShortWriteAnswer};
 
 use basis::Divisor;

@@ -1,4 +1,6 @@
 // Records in slots of 40 bytes in lent memory, slot m from place 40·m on. Bytes are copied in; two records leave and the rest close up.
+#![tactic(auto)]
+
 ghost use Rattle.std.specs.Prelude.{◌+◌, ◌*◌, ◌≤◌, length};
 ghost use Rattle.slots.specs.Held.{Copied, Passed, Closed};
 

@@ -1,4 +1,6 @@
 // The span of a triple: the rest of a vector by it, and whether it is closed under y.
+#![tactic(auto)]
+
 ghost use Rattle.span.specs.Contract.{ReduceAsked, Rest, ClosedAsked, ClosedTest, AtAsked, AtTest};
 
 // v, which is below top, less a member of the span, with no coefficient left at a lead of the span.

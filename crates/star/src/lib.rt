@@ -1,6 +1,8 @@
 // The star of a triple J: the divisor of J* = (f : J), f the least member. J* is read off the functional Λ of f (crate lambda),
 // which is 0 below d + 5 and 1 at d + 5, d the degree of f. Of the other two members u has the degree d + 1 or d + 4, and w the
 // degree d + 2, d + 5 or d + 8.
+#![tactic(auto)]
+
 ghost use Rattle.std.specs.Prelude.{◌+◌};
 ghost use Rattle.vector.specs.Vector.{row};
 ghost use Rattle.multiplication.specs.Contract.{YMultiples};

@@ -1,4 +1,6 @@
 // The tallies of the records of a list by value: how many there are of each kind, how many are typical, how many in all.
+#![tactic(auto)]
+
 ghost use Rattle.std.specs.Prelude.{[], ◌<◌, eqb};
 ghost use Rattle.tallies.specs.Tallied.{TalliesOf, Bounded, OneIf, TypicalTest, AddedTo};
 

@@ -1,4 +1,6 @@
 // Products of vectors, term by term along the table of normal monomials.
+#![tactic(auto)]
+
 pub mod normal;
 
 ghost use Rattle.terms.specs.Contract.{TimesAsked, Times};

@@ -1,4 +1,6 @@
 // Text put into a lent buffer of bytes. Each function writes from place `at` on and returns the place behind what it wrote.
+#![tactic(auto)]
+
 ghost use Rattle.std.specs.Prelude.{[], ◌∷◌, ◌+◌, ◌≤◌, ◌<◌, length};
 ghost use Rattle.text.specs.Decimal.{digit, decimal, two_digits};
 ghost use Rattle.text.specs.Put.{Put, Placed};

@@ -1,5 +1,7 @@
 // Triples of vectors over k[x]: the j-th member is monic with a degree that is j modulo 3, or absent (all zero, with the
 // degree 26). A triple stands for the span of its members over k[x].
+#![tactic(auto)]
+
 ghost use Rattle.triple.specs.Contract.{InsertAsked, Inserted, TurnAsked, Turned, AllAsked, AllInserted, Whole};
 ghost use Rattle.algebra.specs.Answers.{Answers};
 

@@ -1,1 +1,2 @@
 // Theory only: ideals of type 61 are in proofs/.
+#![tactic(auto)]

@@ -1,4 +1,6 @@
 // A number of w bits read of a slice of bytes, across the borders of bytes. Crate packing, specs/Packing.antt, says which bits stand where.
+#![tactic(auto)]
+
 ghost use Rattle.std.specs.Prelude.{◌≡◌, ◌+◌, ◌/◌, ◌%◌, ◌^◌, ◌≤◌, ◌<◌, length, drop};
 ghost use Rattle.packing.specs.Packing.{packed};
 

@@ -1,5 +1,7 @@
 // The sum of two divisors of kind 31 by value, by formulas with one inversion, where they serve: the determinant of the first three columns of the matrix of the
 // two divisors is not 0, and the sum has the kind 31 with f2 not 0.
+#![tactic(auto)]
+
 ghost use Rattle.std.specs.Prelude.{◌≡◌};
 ghost use Rattle.algebra.specs.Answers.{Answers};
 ghost use Rattle.barrett.specs.Divider.{Divides};

@@ -1,5 +1,7 @@
 // Vectors of residues modulo p, indexed by pole number. A vector is 26 numbers below p, 0 at the places 1, 2 and 5.
 // The vector that a loop works on is lent, and loops end at the degree.
+#![tactic(auto)]
+
 ghost use Rattle.field.specs.Contract.{Is};
 ghost use Rattle.vector.specs.Contract.{AxpyAsked, Added, ClearAsked, Cleared, MonicAsked, MadeMonic, DotAsked, pairing, ZeroAsked, ZeroTest, ScaleAsked, Scaled};
 

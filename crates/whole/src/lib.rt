@@ -1,4 +1,6 @@
 // Whole numbers by their sign and size.
+#![tactic(auto)]
+
 ghost use Rattle.whole.specs.Whole.{SignOf};
 
 // A whole number by its sign and size: n or −n.

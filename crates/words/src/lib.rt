@@ -1,4 +1,6 @@
 // Two strings of bytes compared a word of four bytes at a time, from the first.
+#![tactic(auto)]
+
 ghost use Rattle.std.specs.Prelude.{◌≡◌, min};
 ghost use Rattle.words.specs.Contract.{WalkOf};
 

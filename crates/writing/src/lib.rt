@@ -1,5 +1,7 @@
 // Writing little-endian numbers in a slice of bytes, and whole records. Crate layout,
 // specs/Layout.antt, says what the bytes are.
+#![tactic(auto)]
+
 ghost use Rattle.std.specs.Prelude.{◌≡◌, ◌++◌, ◌+◌, ◌*◌, ◌≤◌, ◌<◌, length, take, drop};
 ghost use Rattle.layout.specs.Layout.{bytes2, bytes4, all_bytes4, record_bytes};
 
