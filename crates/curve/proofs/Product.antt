@@ -75,11 +75,11 @@ module _ {k : CommRing} (C : Curve k) where
 
   pub below_mono : (n : ℕ) → IsPole n → Below C (suc n) (mono C n)
   below_mono n p =
-      subst₂ (λ (m : ℕ) (u : El). Below C (suc m) u) (N.add_zero n) ((Coordinate C).mul_one (mono C n)) ((top-mono n p).bound below_one)
+      subst₂ (λ (m : ℕ) (u : El). Below C (suc m) u) (N.add-zero n) ((Coordinate C).mul_one (mono C n)) ((top-mono n p).bound below_one)
 
   pub coefficient-mono : (n : ℕ) → IsPole n → coefficient C n (mono C n) ≡ 𝟙
   coefficient-mono n p =
-      sym (ap₂ (coefficient C) (N.add_zero n) ((Coordinate C).mul_one (mono C n)))
+      sym (ap₂ (coefficient C) (N.add-zero n) ((Coordinate C).mul_one (mono C n)))
       ∙ (top-mono n p).top below_one
       ∙ ap₂ ◌·ₖ◌ (twist-one C n 0 (omega arith)) coefficient-one
       ∙ k.mul_one 𝟙
