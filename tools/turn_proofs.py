@@ -64,8 +64,63 @@ def items(text):
     return head, uses, defs
 
 
+def split_top(s):
+    """The parts of s at its top-level commas."""
+    out, depth, cur = [], 0, ""
+    for ch in s:
+        if ch in "({[":
+            depth += 1
+        elif ch in ")}]":
+            depth -= 1
+        if ch == "," and depth == 0:
+            out.append(cur)
+            cur = ""
+        else:
+            cur += ch
+    if cur.strip():
+        out.append(cur)
+    return [x.strip() for x in out]
+
+
+def recorded(rhs, names):
+    """The tuple at the end of rhs as a record with these fields."""
+    rest = rhs.rstrip()
+    depth, i = 0, len(rest) - 1
+    if not rest.endswith(")"):
+        return None
+    while i >= 0:
+        if rest[i] in ")}]":
+            depth += 1
+        elif rest[i] in "({[":
+            depth -= 1
+            if depth == 0:
+                break
+        i -= 1
+    before = rest[:i].rstrip()
+    if before and not before.endswith(" in") and not before.endswith("."):
+        return None
+    parts = split_top(rest[i + 1 : -1])
+    if len(parts) != len(names):
+        return None
+    return rest[:i] + "record { " + " ".join(f"{n} = {p};" for n, p in zip(names, parts)) + " }"
+
+
+def lent(callee):
+    """The names of the parameters of a function that it takes by &mut."""
+    if not callee or "::" not in callee:
+        return []
+    crate, fn = callee.split("::")[0], callee.split("::")[-1]
+    for d, _, fs in os.walk(f"crates/{crate}/src"):
+        for f in fs:
+            m = re.search(r"fn " + re.escape(fn) + r"(?:<[^>]*>)?\((.*?)\)\s*(?:->|\n|\{)", open(os.path.join(d, f), encoding="utf-8").read(), re.S)
+            if m:
+                return re.findall(r"(\w+): &(?:'\w+ )?mut ", m.group(1))
+    return []
+
+
 class Function:
     def __init__(self, d, clauses):
+        self.callee = {new: callee for _, _, (old, new), callee, _ in d["places"] if callee}
         self.steps = {}
         self.dup = set()
         for place, parent, (old, new), callee, _ in d["places"]:
@@ -121,15 +176,38 @@ class Function:
             else:
                 self.said.append(f"no step {s}")
             comps = ["type_inv" if x == "type-inv" else x for x in comps]
+            if len(comps) > 2 and comps[1] in ("new", "auto") and comps[2].isdigit():
+                names = lent(self.callee.get(comps[0]))
+                if int(comps[2]) < len(names):
+                    comps[2] = names[int(comps[2])]
+            if len(comps) > 2 and comps[1] == "ensures" and comps[2].isdigit() and comps[0] in self.callee:
+                names = ensured(self.callee[comps[0]])
+                if len(names) > 1 and int(comps[2]) < len(names):
+                    comps[2] = names[int(comps[2])]
             return "c." + ".".join(comps)
 
         return TOKEN.sub(turn, text)
 
 
-def own_clauses(src, fn):
-    """The names of the requires of fn, in order."""
+def own_clauses(src, fn, kind="requires"):
+    """The names of the clauses of fn, in order."""
     m = re.search(r"fn " + re.escape(fn) + r"\b(?:(?!\n\{|\n    \{|\nfn |\npub ).)*", src, re.S)
-    return re.findall(r"requires (\w+) \{", m.group(0)) if m else []
+    return re.findall(kind + r" (\w+) \{", m.group(0)) if m else []
+
+
+def ensured(callee):
+    crate, fn = callee.split("::")[0], callee.split("::")[-1]
+    for d, _, fs in os.walk(f"crates/{crate}/src"):
+        for f in fs:
+            t = open(os.path.join(d, f), encoding="utf-8").read()
+            if re.search(r"fn " + re.escape(fn) + r"\b", t):
+                return own_clauses(t, fn, "ensures")
+    return []
+
+
+def need_name(d, need):
+    """The key of 'asked' for a goal's old name."""
+    return next((k for k in d["asked"] if norm(k) == need or norm(k) == norm(dict((norm(o), n) for o, n in d["needs"])[need])), None)
 
 
 def main():
@@ -213,6 +291,13 @@ def main():
                     f.said.append(f"{x['name']}: parameter {params}")
                 extra = [p for p in params[1:] if p != "κs"]
                 rhs = f.body(rhs, {params[0]})
+                names = own_clauses(src, path.split(".")[-1], "ensures") if new.startswith("returns") else f.asked.get(need_name(d, need), [])
+                if len(names) > 1:
+                    r = recorded(rhs, names)
+                    if r is None:
+                        f.said.append(f"{new}: clauses {names}, no tuple")
+                    else:
+                        rhs = " " + r.lstrip(" ") if not r.startswith("\n") else r
                 u = "".join(z + "\n" for z in x["unfold"])
                 ans.append("".join(z + "\n" for z in x["note"]) + f"pub {new} : goal.{new}\n{u}{new} {' '.join(['c'] + extra)} ={rhs}")
                 continue
