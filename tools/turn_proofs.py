@@ -134,7 +134,11 @@ class Function:
             self.steps[norm(ol)] = nl
             self.loops.append((norm(ol), nl, vs))
         self.changed = d["changed"]
-        self.needs = {norm(o): n for o, n in d["needs"]}
+        self.needs = {norm(n): n for o, n in d["needs"]}
+        for o, n in d["needs"]:
+            if o[:3] in ("add", "sub", "mul", "cas", "shl", "shr") and n.startswith("overflow_"):
+                self.needs.setdefault("overflow_" + norm(o), n)
+            self.needs[norm(o)] = n
         self.settled = set(map(norm, d["settled"]))
         self.asked = d["asked"]
         self.own = clauses
@@ -186,7 +190,17 @@ class Function:
                     comps[2] = names[int(comps[2])]
             return "c." + ".".join(comps)
 
-        return TOKEN.sub(turn, text)
+        text = TOKEN.sub(turn, text)
+        for m in list(re.finditer(r"\blet ([^\s=:]+) = c\.([^\s(){},;.]+) in", text)):
+            x, step = m.groups()
+            if step not in self.callee:
+                continue
+            names = lent(self.callee[step])
+            text = re.sub(rf"(?<![^\s(){{}},;]){re.escape(x)}\.(new|auto)\.(\d)", lambda q: f"{x}.{q.group(1)}.{names[int(q.group(2))]}" if int(q.group(2)) < len(names) else q.group(0), text)
+            names = ensured(self.callee[step])
+            if len(names) > 1:
+                text = re.sub(rf"(?<![^\s(){{}},;]){re.escape(x)}\.ensures\.(\d)", lambda q: f"{x}.ensures.{names[int(q.group(1))]}" if int(q.group(1)) < len(names) else q.group(0), text)
+        return text
 
 
 def own_clauses(src, fn, kind="requires"):
@@ -207,7 +221,8 @@ def ensured(callee):
 
 def need_name(d, need):
     """The key of 'asked' for a goal's old name."""
-    return next((k for k in d["asked"] if norm(k) == need or norm(k) == norm(dict((norm(o), n) for o, n in d["needs"])[need])), None)
+    new = {norm(o): norm(n) for o, n in d["needs"]}
+    return next((k for k in d["asked"] if norm(k) in (need, new.get(need))), None)
 
 
 def main():

@@ -1,0 +1,95 @@
+-- `inversion::inverse_by` meets its contract. The loop's invariant is State of proofs/Binary, and its measure x + y.
+use Rattle.std.proofs.Common.{not, ltb, arith}
+use mathlib.Core.Bool.{beq}
+use lib.Count.{count_trailing_zeros, trailing_le}
+use Rattle.inversion.proofs.Zeros.{trailing, part-below}
+use Rattle.inversion.proofs.Binary.{state-start, state-bits, state-sum, Turn, turn}
+use Rattle.inversion.proofs.Finish.{prime-odd, end-most, finish, small-inverse}
+use Rattle.inversion.proofs.inverse_by.Lts as lts
+use Rattle.inversion.proofs.inverse_by.Goals as goal
+
+abbrev After : Type 0
+After =
+    lts.After-pick3 (
+      wrapping-sub-u64-reads.Asked,
+      wrapping-sub-u64-reads.Learnt,
+      pick-reads.Asked,
+      pick-reads.Learnt,
+      ended-reads.Asked,
+      ended-reads.Learnt,
+    ) reads.Pre reads.Post invariant-loop decreases-loop
+
+-- what the calls of a turn give
+turned : (c : After) → Turn c.before.before.before.before.before.before.before.before.args.p c.before.before.before.before.before.before.before.before.args.a c.before.before.before.before.before.before.loop.x c.before.before.before.before.before.before.loop.y c.before.before.before.before.before.before.loop.cx c.before.before.before.before.before.before.loop.cy c.before.before.before.before.before.before.loop.k (count_trailing_zeros 64 c.before.before.before.wrapping-sub-u642.result)
+    c.before.before.pick.result c.before.pick2.result c.pick3.result (not (beq c.before.before.before.before.before.before.loop.negative (ltb c.before.before.before.before.before.before.loop.x c.before.before.before.before.before.before.loop.y)))
+turned c =
+    turn c.before.before.before.before.before.before.before.before.requires.0.prime (omega arith) c.before.before.before.before.before.before.loop.invariant (λ e. omega arith) _ _ _ _ _ (omega arith) (omega arith) c.before.before.before.before.wrapping-sub-u64.ensures c.before.before.before.wrapping-sub-u642.ensures
+    c.before.before.pick.ensures c.before.pick2.ensures c.pick3.ensures
+
+pub returns-then-a-lt2 : goal.returns-then-a-lt2
+returns-then-a-lt2 c = small-inverse _ _ c.requires.invertible.prime (omega arith)
+
+pub overflow_cast-y-2 : goal.overflow_cast-y-2
+overflow_cast-y-2 c = omega (arith, trailing_le 64 c.args.a)
+
+pub overflow_shr-y : goal.overflow_shr-y
+overflow_shr-y c = part-below _ _ (trailing 64 _ (omega arith) (omega arith)) (omega arith)
+
+pub loop-y-init : goal.loop-y-init
+loop-y-init c = state-start _ _ _ (trailing 64 _ (omega arith) (omega arith)) (prime-odd _ c.requires.invertible.prime (omega arith)) (omega arith) (omega arith)
+
+pub wrapping_sub_u64-up-requires : goal.wrapping_sub_u64-up-requires
+wrapping_sub_u64-up-requires c = tt
+
+pub wrapping_sub_u64-down-requires : goal.wrapping_sub_u64-down-requires
+wrapping_sub_u64-down-requires c = tt
+
+pub pick-d-requires : goal.pick-d-requires
+pick-d-requires c = tt
+
+pub pick-c-requires : goal.pick-c-requires
+pick-c-requires c = tt
+
+pub pick-y-requires : goal.pick-y-requires
+pick-y-requires c = tt
+
+pub overflow_add-cx : goal.overflow_add-cx
+overflow_add-cx c = omega (arith, state-sum c.loop-y.invariant)
+
+pub overflow_cast-cy : goal.overflow_cast-cy
+overflow_cast-cy c = omega (arith, (turned c).zeros)
+
+pub overflow_shl-cy : goal.overflow_shl-cy
+overflow_shl-cy c = (turned c).zeros
+
+pub overflow_cast-x : goal.overflow_cast-x
+overflow_cast-x c = omega (arith, (turned c).zeros)
+
+pub overflow_shr-x : goal.overflow_shr-x
+overflow_shr-x c = (turned c).zeros
+
+pub overflow_add-k : goal.overflow_add-k
+overflow_add-k c = omega (arith, state-bits (turned c).state)
+
+pub loop-y-smaller : goal.loop-y-smaller
+loop-y-smaller c = (turned c).less
+
+pub loop-y-preserved : goal.loop-y-preserved
+loop-y-preserved c = (turned c).state
+
+pub ended-requires : goal.ended-requires
+ended-requires c =
+    record {
+      below = omega arith;
+      opposite = c.requires.opposite_of (record { below = omega arith; odd = prime-odd _ c.requires.invertible.prime (omega arith) });
+      most = omega (arith, state-sum c.loop-y.invariant);
+      bits = state-bits c.loop-y.invariant;
+    }
+
+pub overflow_cast-result : goal.overflow_cast-result
+overflow_cast-result c = omega (arith, end-most c.ended.ensures)
+
+pub returns : goal.returns
+returns c =
+    let h = c.requires.invertible.prime in
+    finish h (prime-odd _ h (omega arith)) (omega arith) (omega arith) c.loop-y.invariant (omega arith) c.ended.ensures
