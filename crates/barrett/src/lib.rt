@@ -10,7 +10,7 @@ ghost use Rattle.barrett.specs.Contract.{high_half, dot₃, cross₂, more₁, l
 
 // How numbers are divided by p without a division: the reciprocal is ⌊(2^64 − 1)/p⌋, a number below 2^63 times the factor over 2^(64 + shift) is its quotient by p, and the
 // opposite is −1/p modulo 2^32 where p is odd.
-#[derive(Drop)]
+#[derive(Clone, Copy)]
 pub struct Divider {
     pub reciprocal: u64,
     pub factor: u64,

@@ -7,7 +7,7 @@ ghost use Rattle.vector.specs.Vector.{width};
 ghost use Rattle.basis.specs.Divisor.{of_four, divisor_0};
 ghost use Rattle.basis.specs.Contract.{coefficients, IsTriple, TripleOf, BasisAsked, BasisTest};
 
-#[derive(Drop)]
+#[derive(Clone, Copy)]
 pub struct Divisor {
     pub kind: u32,
     pub n0: u32,

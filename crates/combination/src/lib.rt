@@ -1,4 +1,4 @@
-// Combinations typeof.u.I + typeof.v.J of the ideals I and J of two divisors, with polynomials u and v.
+// Combinations u·I + v·J of the ideals I and J of two divisors, with polynomials u and v.
 #![tactic(auto)]
 
 ghost use Rattle.std.specs.Prelude.{◌<◌};
@@ -8,7 +8,7 @@ use basis::Divisor;
 use ground::Ground;
 
 // A monic polynomial, by its vector and its degree.
-#[derive(Drop)]
+#[derive(Clone, Copy)]
 pub struct Polynomial {
     pub v: [u32; 26],
     pub d: usize,
@@ -25,7 +25,7 @@ pub fn member(x: Divisor, j: usize) -> Polynomial
     Polynomial { v: t[j], d: d[j] }
 }
 
-// The star of typeof.u.I + typeof.v.J, for the ideals I of x and J of y.
+// The star of u·I + v·J, for the ideals I of x and J of y.
 pub fn star_of(g: Ground, u: Polynomial, x: Divisor, v: Polynomial, y: Divisor) -> Divisor
     requires { CombinationAsked g u x v y }
     ensures { CombinationOf g u x v y result }
@@ -37,7 +37,7 @@ pub fn star_of(g: Ground, u: Polynomial, x: Divisor, v: Polynomial, y: Divisor) 
     star::star(g, &t, &d)
 }
 
-// typeof.u.I is added to the span of a triple, for the ideal I of x.
+// u·I is added to the span of a triple, for the ideal I of x.
 fn add(g: Ground, u: Polynomial, x: Divisor, t: &mut [[u32; 26]; 3], d: &mut [usize; 3])
     requires { AddAsked g u x t.old d.old }
     ensures { Added g u x t.old t.new d.new }

@@ -8,7 +8,7 @@ use reader::{CurveAnswer, TwoAnswer};
 use words::Walk;
 
 // The walk over two accepted divisors, or the number of the first cause of refusal.
-#[derive(Drop)]
+#[derive(Clone, Copy)]
 enum WalkAnswer {
     Walk(Walk),
     Refused(u8),

@@ -12,7 +12,7 @@ use basis::Divisor;
 use matrix::Column;
 
 // The coefficients of y³ at the pole numbers 6 to 12: −c3, −c4, −c5, −c6, −c7, −c8 and −a0.
-#[derive(Drop)]
+#[derive(Clone, Copy)]
 pub struct Lower {
     pub n6: u32,
     pub n7: u32,
@@ -24,7 +24,7 @@ pub struct Lower {
 }
 
 // What the columns of a double share.
-#[derive(Drop)]
+#[derive(Clone, Copy)]
 pub struct Parts {
     pub a0: u32,
     pub a1: u32,

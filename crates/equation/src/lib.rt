@@ -10,7 +10,7 @@ ghost use Rattle.nonsingular.specs.Derivative.{twice as double, thrice as treble
 ghost use Rattle.equation.specs.Equation.{curve_of, Coefficients, IsCube, DerivativeAsked, DerivativeX, DerivativeY, TestAsked};
 
 // y³ + a0·x⁴ + c8·xy² + c7·x²y + c6·x³ + c5·y² + c4·xy + c3·x² + c2·y + c1·x + c0 modulo p
-#[derive(Drop)]
+#[derive(Clone, Copy)]
 pub struct Equation {
     pub p: u32,
     pub a0: u32,

@@ -1,4 +1,4 @@
-// The formulas for the sum of two divisors of kind 31 from the row_reduced form of their matrix. The product of their ideals has the elements
+// The formulas for the sum of two divisors of kind 31 from the row-reduced form of their matrix. The product of their ideals has the elements
 // u = x³ + u5·y² + u4·xy + u3·x² + u2·y + u1·x + u0 and v = x²y + v5·y² + v4·xy + v3·x² + v2·y + v1·x + v0, and the sum has the polynomials f, g and h for which
 // f·v = u·(g + a0·u5·f) and f2·h = (y + g1)·f − (x + f1 − g2)·g; comparing coefficients gives its numbers.
 #![tactic(auto)]
@@ -12,7 +12,7 @@ use entries::Lower;
 use matrix::Column;
 
 // u1, u2, u3, u4, or v1, v2, v3, v4.
-#[derive(Drop)]
+#[derive(Clone, Copy)]
 pub struct Tail {
     pub t1: u32,
     pub t2: u32,
@@ -21,7 +21,7 @@ pub struct Tail {
 }
 
 // l = a0·u5, q = l·u5 − v5, f2, k2 = u3 − c7·u5, r0 = f1 − g2, g1, e3 = v3 − l·u3 and e4 = v4 − l·u4.
-#[derive(Drop)]
+#[derive(Clone, Copy)]
 pub struct Head {
     pub l: u32,
     pub q: u32,
@@ -33,7 +33,7 @@ pub struct Head {
     pub e4: u32,
 }
 
-#[derive(Drop)]
+#[derive(Clone, Copy)]
 pub struct Body {
     pub g2: u32,
     pub f1: u32,
@@ -41,7 +41,7 @@ pub struct Body {
     pub g0: u32,
 }
 
-#[derive(Drop)]
+#[derive(Clone, Copy)]
 pub struct Last {
     pub h0: u32,
     pub h1: u32,
@@ -49,7 +49,7 @@ pub struct Last {
 }
 
 // y = z²·f2 for the determinant z and the f2 of the sum, z·y and z³.
-#[derive(Drop)]
+#[derive(Clone, Copy)]
 pub struct Factors {
     pub y: u32,
     pub zy: u32,
@@ -57,7 +57,7 @@ pub struct Factors {
 }
 
 // The inverse of z, and z²/y.
-#[derive(Drop)]
+#[derive(Clone, Copy)]
 pub struct Inverses {
     pub one: u32,
     pub two: u32,
@@ -75,7 +75,7 @@ pub fn inverses_of(p: u32, by: Divider, f: Factors) -> Inverses
     Inverses { one, two }
 }
 
-// The square of the determinant z times f2 of the sum, by z times the row_reduced form: b is its entry in row 2 and column 4, c and e those in row 3 and columns 4 and 5. Its
+// The square of the determinant z times f2 of the sum, by z times the row-reduced form: b is its entry in row 2 and column 4, c and e those in row 3 and columns 4 and 5. Its
 // product with z is formed beside it, not after it.
 pub fn factors_of(p: u32, by: Divider, o: Lower, f2: u32, z: u32, b: u32, c: u32, e: u32) -> Factors
     requires factors_asked { FactorsAsked p o f2 z b c e }

@@ -6,7 +6,7 @@ ghost use Rattle.ground.specs.Ground.{GroundAsked, GroundOf};
 use barrett::Divider;
 use equation::Equation;
 
-#[derive(Drop)]
+#[derive(Clone, Copy)]
 pub struct Ground {
     pub p: u32,
     pub by: Divider,

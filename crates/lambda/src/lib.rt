@@ -5,7 +5,7 @@
 ghost use Rattle.lambda.specs.Lambda.{ValueAsked, Valued, ValueAtAsked, ValueAt, OppositeAsked, OppositeOf, FunctionalAsked, FunctionalOf};
 
 // What the parts of the star of a triple share: the modulus, the inverse of −a0, and the degrees of its members f, u and w.
-#[derive(Drop)]
+#[derive(Clone, Copy)]
 pub struct Pose {
     pub p: u32,
     pub unit: u32,

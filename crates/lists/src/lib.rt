@@ -13,7 +13,7 @@ use ground::Ground;
 use reader::{DivisorAnswer, NextAnswer};
 
 // How many records of a list have a kind, or the number of the first cause of refusal. A list has at most 8,192 records.
-#[derive(Drop)]
+#[derive(Clone, Copy)]
 pub enum TallyAnswer {
     Count(u16),
     Refused(u8),

@@ -1,3 +1,3 @@
--- Why the row_reduced form is one.
+-- Why the row-reduced form is one.
 pub mod Cramer
 pub mod Reduced

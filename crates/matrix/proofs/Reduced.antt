@@ -1,4 +1,4 @@
--- The row_reduced form of a matrix from the vector and scalar products of its columns.
+-- The row-reduced form of a matrix from the vector and scalar products of its columns.
 --   below_at               the columns of a matrix of numbers below p
 --   Made, cleared_made     z times the form
 --   unscaled               d from z·d, by the inverse of z

@@ -3,10 +3,10 @@
 --   Crossed p a b r        crossed: r is the vector product
 --   Coordinates p v a b c r        coordinates: the scalar products of v with a, b and c
 --   Combines R a b c s z d z·d = s0·a + s1·b + s2·c
---   Cleared p m r          cleared: r is z times the row_reduced form of m, z the determinant of a, b, c
+--   Cleared p m r          cleared: r is z times the row-reduced form of m, z the determinant of a, b, c
 --   TimesAsked, Times      times: u times a column
---   RowReduced p m r       r is the row_reduced form of m: its first three columns are the unit columns, and its last two combine a, b, c to d and to e
---   RowReducedAsked, RowReducedOf  row_reduced: r is the row_reduced form of each matrix of which c is z times this form, u the inverse of z
+--   RowReduced p m r       r is the row-reduced form of m: its first three columns are the unit columns, and its last two combine a, b, c to d and to e
+--   RowReducedAsked, RowReducedOf  row_reduced: r is the row-reduced form of each matrix of which c is z times this form, u the inverse of z
 use Rattle.std.specs.Prelude.{◌≡◌, List, ℕ, ◌<◌}
 use Rattle.algebra.specs.Ring.{CommRing, ops}
 use Rattle.columns.specs.Pivots.{determinant}

@@ -1,4 +1,4 @@
-// A matrix of three rows of five residues modulo p, an array of arrays by value, and its row_reduced form by cofactors. The columns are a, b, c, d, e; the
+// A matrix of three rows of five residues modulo p, an array of arrays by value, and its row-reduced form by cofactors. The columns are a, b, c, d, e; the
 // determinant of the first three is z = a·(b × c), and z·d = (d·(b × c))·a + (d·(c × a))·b + (d·(a × b))·c, e likewise.
 #![tactic(auto)]
 
@@ -13,7 +13,7 @@ ghost use Rattle.matrix.specs.Contract.{TwoColumns, Crossed, FourColumns, Coordi
 use barrett::Divider;
 
 // A column: its entries in the rows of 1, of x and of y.
-#[derive(Drop)]
+#[derive(Clone, Copy)]
 pub struct Column {
     pub one: u32,
     pub x: u32,
@@ -63,7 +63,7 @@ fn dotted(p: u32, by: Divider, a: Column, b: Column) -> u32
     barrett::dot3(p, by, a.one, b.one, a.x, b.x, a.y, b.y)
 }
 
-// z times the row_reduced form of m, z the determinant of its first three columns.
+// z times the row-reduced form of m, z the determinant of its first three columns.
 pub fn cleared(p: u32, by: Divider, m: [[u32; 5]; 3]) -> [[u32; 5]; 3]
     requires matrix_below { MatrixBelow p m }
     requires divides { Divides p by }
@@ -99,7 +99,7 @@ fn coordinates(p: u32, by: Divider, v: Column, a: Column, b: Column, c: Column) 
     Column { one, x, y }
 }
 
-// The row_reduced form of a matrix, where c is z times this form and u the inverse of z.
+// The row-reduced form of a matrix, where c is z times this form and u the inverse of z.
 pub fn row_reduced(p: u32, by: Divider, c: [[u32; 5]; 3], u: u32) -> [[u32; 5]; 3]
     requires row_reduced_asked { RowReducedAsked p c u }
     requires divides { Divides p by }

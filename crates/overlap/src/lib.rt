@@ -15,7 +15,7 @@ use ground::Ground;
 use reader::{CurveAnswer, DivisorAnswer, TwoAnswer};
 
 // What is wanted of two divisors.
-#[derive(Drop)]
+#[derive(Clone, Copy)]
 enum Wanted {
     Part,
     Multiple,

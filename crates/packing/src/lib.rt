@@ -7,7 +7,7 @@ ghost use Rattle.packing.specs.Packing.{packed, filled};
 ghost use Rattle.packing.specs.Contract.{LengthOf, laid, PackAsked, Begun};
 
 // How many bytes are written, and the bits behind them that are not.
-#[derive(Drop)]
+#[derive(Clone, Copy)]
 struct Rest {
     done: usize,
     held: u64,

@@ -11,7 +11,7 @@ use combination::Polynomial;
 use ground::Ground;
 
 // The classes of the polynomials of a record in its triple: the first, which is the least, the second, and the one that is left.
-#[derive(Drop)]
+#[derive(Clone, Copy)]
 struct Places {
     first: usize,
     second: usize,
@@ -19,7 +19,7 @@ struct Places {
 }
 
 // A common multiple and a common part.
-#[derive(Drop)]
+#[derive(Clone, Copy)]
 pub struct Parts {
     pub multiple: Divisor,
     pub part: Divisor,
@@ -58,7 +58,7 @@ fn least(x: Divisor) -> Polynomial
     combination::member(x, q.first)
 }
 
-// The reduced ideal of typeof.u.I + typeof.v.J, for the ideals I of x and J of y.
+// The reduced ideal of u·I + v·J, for the ideals I of x and J of y.
 fn overlap(g: Ground, u: Polynomial, x: Divisor, v: Polynomial, y: Divisor) -> Divisor
     requires { CombinationAsked g u x v y }
     ensures { OverlapOf g u x v y result }
@@ -77,7 +77,7 @@ pub fn common_part(g: Ground, x: Divisor, y: Divisor) -> Divisor
     overlap(g, one, x, one, y)
 }
 
-// The reduced ideal of (u : N) ∩ J, for the ideals N of n, in which u is, and J of y: the star of u·J* + typeof.v.N, v the least element of J.
+// The reduced ideal of (u : N) ∩ J, for the ideals N of n, in which u is, and J of y: the star of u·J* + v·N, v the least element of J.
 fn meet(g: Ground, u: Polynomial, n: Divisor, y: Divisor) -> Divisor
     requires { MeetAsked g u n y }
     ensures { MeetOf g u n y result }

@@ -14,7 +14,7 @@ use reader::NextAnswer;
 use tallies::Tallies;
 
 // The sum and the tallies of the records of a list, or the number of the first cause of refusal.
-#[derive(Drop)]
+#[derive(Clone, Copy)]
 pub enum PassAnswer {
     All(Divisor, Tallies),
     Refused(u8),

@@ -23,28 +23,28 @@ pub const LIST_LIMIT: usize = 32768;
 pub const ROOM: usize = 40;
 
 // An accepted curve, or the number of the first cause of refusal.
-#[derive(Drop)]
+#[derive(Clone, Copy)]
 pub enum CurveAnswer {
     Curve(Equation),
     Refused(u8),
 }
 
 // An accepted divisor, or the number of the first cause of refusal.
-#[derive(Drop)]
+#[derive(Clone, Copy)]
 pub enum DivisorAnswer {
     Divisor(Divisor),
     Refused(u8),
 }
 
 // Two accepted divisors, or the number of the first cause of refusal.
-#[derive(Drop)]
+#[derive(Clone, Copy)]
 pub enum TwoAnswer {
     Two(Divisor, Divisor),
     Refused(u8),
 }
 
 // An accepted divisor and the length of its record, or the number of the first cause of refusal.
-#[derive(Drop)]
+#[derive(Clone, Copy)]
 pub enum NextAnswer {
     Next(Divisor, usize),
     Refused(u8),

@@ -15,7 +15,7 @@ use ground::Ground;
 use lambda::Pose;
 
 // a4·y + a3·x + a0
-#[derive(Drop)]
+#[derive(Clone, Copy)]
 struct Terms {
     a0: u32,
     a3: u32,
@@ -23,7 +23,7 @@ struct Terms {
 }
 
 // Λ(y·w), Λ(y·v) and Λ(x·v), where v is w or x·w, of degree d + 5
-#[derive(Drop)]
+#[derive(Clone, Copy)]
 struct Values {
     w4: u32,
     v4: u32,

@@ -7,7 +7,7 @@ ghost use Rattle.tallies.specs.Tallied.{TalliesOf, Bounded, OneIf, TypicalTest, 
 use basis::Divisor;
 
 // How many records of a list have each of the five kinds, how many are typical, and how many there are.
-#[derive(Drop)]
+#[derive(Clone, Copy)]
 pub struct Tallies {
     pub n0: u32,
     pub n11: u32,

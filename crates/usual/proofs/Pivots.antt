@@ -1,9 +1,9 @@
 -- The determinant z of the first three columns, and z²·f2: where neither is zero the formulas serve.
---   Front, front           z and z times the last two columns of the row_reduced form
---   times_columns          z·s = d for the columns s of the row_reduced form and d of z times this form
+--   Front, front           z and z times the last two columns of the row-reduced form
+--   times_columns          z·s = d for the columns s of the row-reduced form and d of z times this form
 --   factor-is              the factor is z²·f2
 --   unserved, served       what the function returns
---   form-below             the columns of the row_reduced form are below p
+--   form-below             the columns of the row-reduced form are below p
 use mathlib.Core.Path.{◌≡◌, refl, sym, ◌∙◌, ap, subst}
 use mathlib.Core.Logic.{◌⊎◌, inl, inr}
 use mathlib.Core.Bool.{true, false, true≢false, false≢true}

@@ -1,10 +1,10 @@
 -- What the functions for the sum by formulas require and ensure.
 --   IsLower p C o          o has the coefficients of y³ on the curve C
---   us_of, vs_of           the numbers of u and v, for the last two columns s and t of the row_reduced matrix
+--   us_of, vs_of           the numbers of u and v, for the last two columns s and t of the row-reduced matrix
 --   CompleteAsked, CompleteOf      completed: the divisor of the formulas
 --   MatrixAsked, MatrixOf  matrix_of: the matrix of a double where the numbers are the same, and else that of a sum
 --   SolveAsked             solved: what it requires
---   Pivoted p m            the determinant of the first three columns of m is not zero, and s and t are the last two of its row_reduced form
+--   Pivoted p m            the determinant of the first three columns of m is not zero, and s and t are the last two of its row-reduced form
 --   Solved p o n m r       … and r is the divisor of the formulas, with f2 not zero
 --   Unsolved p o n m       the determinant is zero, or f2 is
 --   SolvedOf               solved: the one where it serves, and the other where it does not

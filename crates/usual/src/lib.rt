@@ -16,13 +16,13 @@ use ground::Ground;
 use matrix::Column;
 
 // Whether the formulas serve, and the sum if they do.
-#[derive(Drop)]
+#[derive(Clone, Copy)]
 pub struct Tried {
     pub served: bool,
     pub sum: Divisor,
 }
 
-// The divisor of the formulas, from the last two columns of the row_reduced matrix; i is the inverse of its f2.
+// The divisor of the formulas, from the last two columns of the row-reduced matrix; i is the inverse of its f2.
 fn completed(p: u32, by: Divider, o: Lower, n: Divisor, s: Column, t: Column, i: u32) -> Divisor
     requires complete_asked { CompleteAsked p o n s t i }
     requires divides { Divides p by }

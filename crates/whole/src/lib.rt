@@ -4,7 +4,7 @@
 ghost use Rattle.whole.specs.Whole.{SignOf};
 
 // A whole number by its sign and size: n or −n.
-#[derive(Drop)]
+#[derive(Clone, Copy)]
 pub enum Whole {
     Up(u64),
     Down(u64),

@@ -5,7 +5,7 @@ ghost use Rattle.std.specs.Prelude.{◌≡◌, min};
 ghost use Rattle.words.specs.Contract.{WalkOf};
 
 // What a walk over two strings of bytes meets: how many pairs of words it compares, and whether all words are the same.
-#[derive(Drop)]
+#[derive(Clone, Copy)]
 pub struct Walk {
     pub compared: usize,
     pub same: bool,

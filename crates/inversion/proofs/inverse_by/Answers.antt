@@ -5,26 +5,15 @@ use lib.Count.{count_trailing_zeros, trailing_le}
 use Rattle.inversion.proofs.Zeros.{trailing, part-below}
 use Rattle.inversion.proofs.Binary.{state-start, state-bits, state-sum, Turn, turn}
 use Rattle.inversion.proofs.Finish.{prime-odd, end-most, finish, small-inverse}
-use Rattle.inversion.proofs.inverse_by.Lts as lts
 use Rattle.inversion.proofs.inverse_by.Goals as goal
-
-abbrev After : Type 0
-After =
-    lts.After-pick3 (
-      wrapping-sub-u64-reads.Asked,
-      wrapping-sub-u64-reads.Learnt,
-      pick-reads.Asked,
-      pick-reads.Learnt,
-      ended-reads.Asked,
-      ended-reads.Learnt,
-    ) reads.Pre reads.Post invariant-loop decreases-loop
+use Rattle.inversion.proofs.inverse_by.Goals.{After-pick-y}
 
 -- what the calls of a turn give
-turned : (c : After) → Turn c.before.before.before.before.before.before.before.before.args.p c.before.before.before.before.before.before.before.before.args.a c.before.before.before.before.before.before.loop.x c.before.before.before.before.before.before.loop.y c.before.before.before.before.before.before.loop.cx c.before.before.before.before.before.before.loop.cy c.before.before.before.before.before.before.loop.k (count_trailing_zeros 64 c.before.before.before.wrapping-sub-u642.result)
-    c.before.before.pick.result c.before.pick2.result c.pick3.result (not (beq c.before.before.before.before.before.before.loop.negative (ltb c.before.before.before.before.before.before.loop.x c.before.before.before.before.before.before.loop.y)))
+turned : (c : After-pick-y) → Turn c.args.p c.args.a c.loop-y.x c.loop-y.y c.loop-y.cx c.loop-y.cy c.loop-y.k (count_trailing_zeros 64 c.wrapping_sub_u64-down.result)
+    c.pick-d.result c.pick-c.result c.pick-y.result (not (beq c.loop-y.negative (ltb c.loop-y.x c.loop-y.y)))
 turned c =
-    turn c.before.before.before.before.before.before.before.before.requires.0.prime (omega arith) c.before.before.before.before.before.before.loop.invariant (λ e. omega arith) _ _ _ _ _ (omega arith) (omega arith) c.before.before.before.before.wrapping-sub-u64.ensures c.before.before.before.wrapping-sub-u642.ensures
-    c.before.before.pick.ensures c.before.pick2.ensures c.pick3.ensures
+    turn c.requires.invertible.prime (omega arith) c.loop-y.invariant (λ e. omega arith) _ _ _ _ _ (omega arith) (omega arith) c.wrapping_sub_u64-up.ensures.value c.wrapping_sub_u64-down.ensures.value
+    c.pick-d.ensures c.pick-c.ensures c.pick-y.ensures
 
 pub returns-then-a-lt2 : goal.returns-then-a-lt2
 returns-then-a-lt2 c = small-inverse _ _ c.requires.invertible.prime (omega arith)
@@ -57,25 +46,25 @@ pub overflow_add-cx : goal.overflow_add-cx
 overflow_add-cx c = omega (arith, state-sum c.loop-y.invariant)
 
 pub overflow_cast-cy : goal.overflow_cast-cy
-overflow_cast-cy c = omega (arith, (turned c).zeros)
+overflow_cast-cy c = omega (arith, (turned (goal.at.overflow_cast-cy c).After-pick-y).zeros)
 
 pub overflow_shl-cy : goal.overflow_shl-cy
-overflow_shl-cy c = (turned c).zeros
+overflow_shl-cy c = (turned (goal.at.overflow_shl-cy c).After-pick-y).zeros
 
 pub overflow_cast-x : goal.overflow_cast-x
-overflow_cast-x c = omega (arith, (turned c).zeros)
+overflow_cast-x c = omega (arith, (turned (goal.at.overflow_cast-x c).After-pick-y).zeros)
 
 pub overflow_shr-x : goal.overflow_shr-x
-overflow_shr-x c = (turned c).zeros
+overflow_shr-x c = (turned (goal.at.overflow_shr-x c).After-pick-y).zeros
 
 pub overflow_add-k : goal.overflow_add-k
-overflow_add-k c = omega (arith, state-bits (turned c).state)
+overflow_add-k c = omega (arith, state-bits (turned (goal.at.overflow_add-k c).After-pick-y).state)
 
 pub loop-y-smaller : goal.loop-y-smaller
-loop-y-smaller c = (turned c).less
+loop-y-smaller c = (turned (goal.at.loop-y-smaller c).After-pick-y).less
 
 pub loop-y-preserved : goal.loop-y-preserved
-loop-y-preserved c = (turned c).state
+loop-y-preserved c = (turned (goal.at.loop-y-preserved c).After-pick-y).state
 
 pub ended-requires : goal.ended-requires
 ended-requires c =
