@@ -191,8 +191,11 @@ class Function:
             return "c." + ".".join(comps)
 
         text = TOKEN.sub(turn, text)
+        text = re.sub(r"\(not-(?:true|false) _ (c\.[^\s()]+)\)", r"\1", text)
         for m in list(re.finditer(r"\blet ([^\s=:]+) = c\.([^\s(){},;.]+) in", text)):
             x, step = m.groups()
+            if step == "requires" and len(self.own) > 1:
+                text = re.sub(rf"(?<![^\s(){{}},;]){re.escape(x)}\.(\d)", lambda q: f"{x}.{self.own[int(q.group(1))]}" if int(q.group(1)) < len(self.own) else q.group(0), text)
             if step not in self.callee:
                 continue
             names = lent(self.callee[step])

@@ -4,4 +4,4 @@ use borrow.Author.Tests.{not-false}
 use Rattle.field_test.proofs.inverse.Goals as goal
 
 pub inverse-requires : goal.inverse-requires
-inverse-requires c = record { prime = c.is_prime.ensures.holds (not-false _ c.if-not-is_prime.false); below = omega arith }
+inverse-requires c = record { prime = c.is_prime.ensures.holds c.if-not-is_prime.false; below = omega arith }
