@@ -120,6 +120,13 @@ def lent(callee):
 
 class Function:
     def __init__(self, d, clauses):
+        self.arms = {}
+        for arm in d["arms"]:
+            if arm:
+                name, _, fields = arm
+                for field, step, path in fields:
+                    if path and path[0] == "given":
+                        self.arms[norm(step), tuple(path)] = (name, field)
         self.callee = {new: callee for _, _, (old, new), callee, _ in d["places"] if callee}
         self.steps = {}
         self.dup = set()
@@ -169,6 +176,12 @@ class Function:
             if not comps:
                 return "c"
             s = comps[0]
+            for n in range(len(comps), 1, -1):
+                arm = self.arms.get((norm(s), tuple(comps[1:n])))
+                if arm:
+                    return "c." + ".".join(list(arm) + comps[n:])
+            if len(comps) > 1 and comps[1] == "given":
+                self.said.append(f"arm {'.'.join(comps)}")
             if norm(s) in self.steps and s not in SPECIAL:
                 if norm(s) in self.dup:
                     self.said.append(f"step {s} is not one")
@@ -191,7 +204,12 @@ class Function:
             return "c." + ".".join(comps)
 
         text = TOKEN.sub(turn, text)
-        text = re.sub(r"\(not-(?:true|false) _ (c\.[^\s()]+)\)", r"\1", text)
+        text = re.sub(r"\(not-(?:true|false) _ (c\.[^\s()]+)\)", lambda m: m.group(1).replace("if-not-", "if\0not-"), text)
+        text, n = re.subn(r"(?<![^\s(){},;])(c\.if-not-[^\s(){},;.]+\.(?:true|false))(?![^\s(){},;])", r"(ap not \1)", text)
+        if n:
+            self.needs_not = True
+        text = text.replace("\0", "-")
+        text = text.replace(".type-inv", ".type_inv")
         for m in list(re.finditer(r"\blet ([^\s=:]+) = c\.([^\s(){},;.]+) in", text)):
             x, step = m.groups()
             if step == "requires" and len(self.own) > 1:
@@ -325,6 +343,10 @@ def main():
         uses = [u for u in uses if not re.search(r"\.(Tie|Statement|Reads|Kinds)\b|borrow\.Author\.Rules", u)]
         module = f"Rattle.{cname}.proofs.{path}"
         everything = "\n".join(ans + helpers)
+        if "(ap not " in everything:
+            for name, module in (("ap", "mathlib.Core.Path"), ("not", "mathlib.Core.Bool")):
+                if not re.search(r"\{(?:[^}]*, )?" + name + r"[,}]", "\n".join(uses)):
+                    uses.append(f"use {module}.{{{name}}}")
         if "rules" in everything:
             uses.append("use borrow.Author.Rules.{rules}")
 

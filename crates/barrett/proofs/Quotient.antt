@@ -10,7 +10,7 @@ use mathlib.Core.Path.{◌≡◌, sym, ◌∙◌, ap}
 use Prim.Native.Nat.{ℕ, ◌+◌, ◌*◌, ◌-◌, ◌/◌, ◌%◌, ◌^◌, ◌≤◌, ◌<◌}
 use native.Mathlib.Nat.{mul-le-mul, le_of_mul-le-mul_right, lt_of_mul-lt-mul_right, div-add-mod, mod-lt, add-mul-mod_self_right}
 use native.Mathlib.Omega.{arith}
-use Rattle.field.specs.Residue.{Z, el}
+use Rattle.field.specs.Residue.{el}
 use Rattle.field.specs.Contract.{Is}
 use Rattle.field.proofs.Element.{el-same}
 use Rattle.barrett.specs.declared.Divider.{Divider}

@@ -2,56 +2,56 @@
 // borders of the table's parts, and the largest primes below 2³¹ and 2³².
 #![tactic(auto)]
 
-fn say(n: u32) {
-    io::print_decimal(1, n as u64);
+use std::io;
+
+fn say(rt: &impl Print, n: u32) -> io::Result<()> {
     if prime::is_prime(n) {
-        io::write_all(1, b" prime\n");
+        println!(rt; "{n} prime")
     } else {
-        io::write_all(1, b" no\n");
+        println!(rt; "{n} no")
     }
 }
 
-fn small() {
-    let mut n: u32 = 0;
-    while n < 32 {
-        say(n);
-        n += 1;
+fn small(rt: &impl Print) -> io::Result<()> {
+    for n in 0..32 {
+        say(rt, n)?;
     }
+    Ok(())
 }
 
-fn carmichael() {
-    say(561);
-    say(1105);
-    say(1729);
-    say(294409);
-    say(56052361);
-    say(118901521);
-    say(172947529);
+fn carmichael(rt: &impl Print) -> io::Result<()> {
+    say(rt, 561)?;
+    say(rt, 1105)?;
+    say(rt, 1729)?;
+    say(rt, 294409)?;
+    say(rt, 56052361)?;
+    say(rt, 118901521)?;
+    say(rt, 172947529)
 }
 
-fn borders() {
-    say(677329);
-    say(680621);
-    say(14386849);
-    say(592289569);
-    say(2147117569);
-    say(2238141481);
-    say(4292870399);
-    say(4293001441);
+fn borders(rt: &impl Print) -> io::Result<()> {
+    say(rt, 677329)?;
+    say(rt, 680621)?;
+    say(rt, 14386849)?;
+    say(rt, 592289569)?;
+    say(rt, 2147117569)?;
+    say(rt, 2238141481)?;
+    say(rt, 4292870399)?;
+    say(rt, 4293001441)
 }
 
-fn large() {
-    say(65537);
-    say(2147483629);
-    say(2147483647);
-    say(2147483649);
-    say(4294967291);
-    say(4294967295);
+fn large(rt: &impl Print) -> io::Result<()> {
+    say(rt, 65537)?;
+    say(rt, 2147483629)?;
+    say(rt, 2147483647)?;
+    say(rt, 2147483649)?;
+    say(rt, 4294967291)?;
+    say(rt, 4294967295)
 }
 
-fn main() {
-    small();
-    carmichael();
-    borders();
-    large();
+fn main(rt: HostRuntime) -> io::Result<()> {
+    small(&rt)?;
+    carmichael(&rt)?;
+    borders(&rt)?;
+    large(&rt)
 }

@@ -1,5 +1,5 @@
 -- `bench_words::same_bytes` meets its contract. The loop's invariant: the bytes before place i agree.
-use Prim.Native.Nat.{ℕ, ◌-◌}
+use Prim.Native.Nat.{ℕ}
 use mathlib.Core.Path.{ap}
 use native.Mathlib.Omega.{arith}
 use mathlib.Core.List.{List}
