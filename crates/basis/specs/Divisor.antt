@@ -6,7 +6,6 @@
 --   Shaped p κ r       r has the kind κ, and its numbers are below p
 --   BasisValue p C κ r … and it is a basis on the curve C
 use Rattle.std.specs.Prelude.{◌≡◌, List, [], ◌∷◌, ℕ, ◌<◌}
-use Rattle.algebra.specs.Ring.{CommRing}
 use Rattle.field.specs.Residue.{Z, el}
 use Rattle.curve.specs.Curve.{Curve}
 use Rattle.divisor.specs.Kind.{Kind, code, IsBasis}

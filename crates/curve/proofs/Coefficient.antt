@@ -9,7 +9,7 @@
 --   constant-zero constant-one constant-add constant-neg constant-mul      and so are constants
 use mathlib.Core.Path.{◌≡◌, sym, ◌∙◌, ap}
 use mathlib.Core.List.{[], ◌∷◌}
-use Prim.Native.Nat.{ℕ, zero, suc, ◌≤◌}
+use Prim.Native.Nat.{ℕ, suc, ◌≤◌}
 use lib.Dec.{lit≤}
 use Rattle.algebra.specs.Ring.{CommRing}
 use Rattle.polynomial.specs.Poly.{Poly, coef, poly_path, const, X}

@@ -4,7 +4,6 @@
 --   curve-equation     F(x, y) = 0 in the coordinate ring
 use mathlib.Core.Path.{◌≡◌, ◌∙◌, ap}
 use mathlib.Core.List.{List, [], ◌∷◌}
-use Prim.Native.Nat.{zero, ◌+◌, ◌*◌}
 use Rattle.algebra.specs.Ring.{CommRing, Ops, ops}
 use Rattle.algebra.proofs.Norm.{E-ops, nil, unit}
 use Rattle.algebra.proofs.Solve.{solve_from, given, ◌⊞◌, ◌⊠◌, ⊟◌}

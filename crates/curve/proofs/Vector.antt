@@ -3,7 +3,7 @@
 --   vector-is          g is the vector of f if f has its coefficients at the pole numbers
 --   vector-zero vector-same vector-scale         zero, equal sequences, multiples by constants
 use mathlib.Core.Path.{◌≡◌, sym, ◌∙◌, ap}
-use Prim.Native.Nat.{ℕ, zero, ◌≤◌}
+use Prim.Native.Nat.{ℕ, ◌≤◌}
 use Rattle.algebra.specs.Ring.{CommRing}
 use Rattle.ideal.specs.Poles.{IsGap, IsPole}
 use Rattle.curve.specs.Curve.{Curve, Coordinate, constant}

@@ -29,7 +29,6 @@ use Rattle.ideal.proofs.Reduced.{SmallFootprint, footprint_same}
 use Rattle.ideal.proofs.Finite.{BasedIdeal, footprint_based}
 use Rattle.curve.specs.Curve.{Curve, Coordinate, y}
 use Rattle.curve.specs.Sequence.{coefficient}
-use Rattle.curve.specs.Monomial.{mono}
 use Rattle.curve.proofs.Term.{coefficient-gap}
 use Rattle.poles.specs.Poles.{poles}
 use Rattle.curve.proofs.Poles.{below_some}

@@ -6,7 +6,6 @@
 --   DerivativeX, DerivativeY       … of the normal forms of Fx and Fy
 --   TestAsked              nonsingular: what the test requires
 use Rattle.std.specs.Prelude.{◌≡◌, List, ℕ, ◌<◌}
-use Rattle.algebra.specs.Ring.{CommRing}
 use Rattle.prime.specs.Prime.{Prime}
 use Rattle.field.specs.Residue.{Z, el}
 use Rattle.curve.specs.Curve.{Curve}

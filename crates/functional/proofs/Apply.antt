@@ -5,7 +5,7 @@
 --   apply-same                 functionals that agree where g has a coefficient
 --   apply-more                 one more value lam m adds lam m times the coefficient at m
 use mathlib.Core.Path.{◌≡◌, refl, sym, ◌∙◌, ap}
-use Prim.Native.Nat.{ℕ, zero, suc, ◌<◌}
+use Prim.Native.Nat.{ℕ, suc, ◌<◌}
 use native.Mathlib.Omega.{arith}
 use native.Mathlib.Decide.{ℕ_discrete, dec_lt}
 use Rattle.algebra.specs.Ring.{CommRing}

@@ -12,7 +12,7 @@ use Rattle.algebra.proofs.Laws as L
 use Rattle.algebra.proofs.Solve.{solve, ◌⊠◌}
 use Rattle.field.specs.Residue.{Z, el}
 use Rattle.field.proofs.Element.{el-zero}
-use Rattle.curve.specs.Curve.{Curve, Coordinate, x, y}
+use Rattle.curve.specs.Curve.{Curve, Coordinate, x}
 use Rattle.curve.specs.Sequence.{coefficient}
 use Rattle.curve.specs.Monomial.{power, monomial, mono}
 use Rattle.vector.specs.Vector.{Vec, at, res, element, x_to, y_to, width}

@@ -5,7 +5,6 @@
 --   GroundAsked e          the coefficients are below p, and a0 is 1
 --   GroundOf e g           of: g is the ground of the curve e
 use Rattle.std.specs.Prelude.{◌≡◌, ℕ, ◌<◌}
-use Rattle.algebra.specs.Ring.{CommRing}
 use Rattle.field.specs.Residue.{Z, el}
 use Rattle.curve.specs.Curve.{Curve}
 use Rattle.barrett.specs.Divider.{Divides}

@@ -5,11 +5,9 @@ use mathlib.Core.Path.{◌≡◌, ◌∙◌}
 use Prim.Native.Nat.{ℕ, zero, suc}
 use Rattle.algebra.specs.Ring.{CommRing, ops}
 use Rattle.algebra.proofs.Norm.{E}
-use Rattle.algebra.proofs.Solve.{solve, solve_from, given, ◌⊞◌, ◌⊠◌, ⊟◌}
-use mathlib.Core.List.{[], ◌∷◌}
+use Rattle.algebra.proofs.Solve.{solve, ◌⊞◌, ◌⊠◌, ⊟◌}
 use Rattle.columns.specs.Pivots.{determinant}
 use Rattle.barrett.specs.Contract.{dot₃, cross₂}
-use Rattle.matrix.specs.Contract.{Combines}
 
 abbrev dot_e : E → E → E → E → E → E → E
 dot_e a b c d e f = a ⊠ b ⊞ c ⊠ d ⊞ e ⊠ f

@@ -15,7 +15,7 @@ use Rattle.columns.specs.Pivots.{determinant}
 use Rattle.barrett.specs.Contract.{dot₃}
 use Rattle.matrix.specs.declared.Column.{Column}
 use Rattle.matrix.specs.Matrix.{entry, column, column_at, rows_of, ColumnBelow, MatrixBelow, residues_of}
-use Rattle.matrix.specs.Contract.{Crossed, scalar, Coordinates, Combines, column_residues, Cleared, RowReduced, RowReducedOf, Times}
+use Rattle.matrix.specs.Contract.{Crossed, scalar, Coordinates, Combines, column_residues, Cleared, RowReducedOf, Times}
 use Rattle.matrix.proofs.Cramer.{along, IsCross, cramer}
 
 pub below_at : {p : ℕ} {m : List (List ℕ)} {v : Column} → MatrixBelow p m → (j : ℕ) → j < 5 → v ≡ column_at m j → ColumnBelow p v

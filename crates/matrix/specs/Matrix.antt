@@ -7,7 +7,6 @@
 --   MatrixBelow p m        the entries of a matrix are below p, and p is below 2^31
 --   residues_of p v        a column as residues modulo p: 0, 1, 2 for its entries in the rows of 1, of x and of y
 use Rattle.std.specs.Prelude.{List, [], ◌∷◌, ℕ, zero, suc, ◌<◌, get_or}
-use Rattle.algebra.specs.Ring.{CommRing}
 use Rattle.field.specs.Residue.{Z, el}
 use Rattle.matrix.specs.declared.Column.{Column}
 

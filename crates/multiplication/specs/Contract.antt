@@ -4,7 +4,6 @@
 --   YMultiplesAsked, YMultiples       y_multiples: v, y·v and y²·v
 --   ShiftAsked, Shifted       shift_y: v[n] at the place n + 4, for each n of the classes 0 and 1 modulo 3
 use Rattle.std.specs.Prelude.{◌≡◌, List, ℕ, ◌+◌, ◌%◌, ◌<◌, ◌≤◌, length}
-use Rattle.algebra.specs.Ring.{CommRing}
 use Rattle.field.specs.Residue.{Z}
 use Rattle.curve.specs.Curve.{Curve, Coordinate, y}
 use Rattle.vector.specs.Vector.{Vec, Top, at, element, width}

@@ -5,8 +5,10 @@
 // the second argument, and the length of the slice for the result; the curve; and the second argument, in which points are numbers of four bytes.
 #![tactic(auto)]
 
-ghost use Rattle.std.specs.Prelude.{◌+◌, ◌*◌, ◌≤◌, length};
+ghost use Rattle.std.specs.Prelude.{◌+◌, ◌*◌, ◌≤◌, length, IfOk};
 
+use std::io;
+use std::io::{Input, Read};
 use whole::Whole;
 
 // The bytes of a call before its arguments.
@@ -28,29 +30,41 @@ const START: usize = 200;
 const MOST: usize = 600;
 
 // Prints why the program ends; false, for there are no more calls.
-fn stop(why: &[u8]) -> bool {
-    io::write_all(1, why);
-    false
+fn stop(rt: &impl Print, why: &[u8]) -> io::Result<bool> {
+    rt.write_all(why)?;
+    Ok(false)
+}
+
+// Reads until `buf` is full or the input ends, and returns how many bytes were put at the start of `buf`.
+fn read_full(reader: &mut impl Read, buf: &mut [u8]) -> io::Result<usize>
+    ensures { IfOk result (λ n. n ≤ length buf.new) }
+{
+    let mut done = 0;
+    while done < buf.len() {
+        let n = reader.read(&mut buf[done..])?;
+        if n == 0 {
+            break;
+        }
+        done += n;
+    }
+    Ok(done)
 }
 
 // Reads n bytes to the start of `to`; false if the input ends before.
-fn read_part(to: &mut [u8], n: usize) -> bool
-    requires* { do ⌜ n ≤ (← ⟦to.len()⟧) ⌝ }
+fn read_part(reader: &mut impl Read, to: &mut [u8], n: usize) -> io::Result<bool>
+    requires { n ≤ length to.old }
 {
-    let got = io::read_full(0, &mut to[0..n]);
-    got == n
+    let got = read_full(reader, &mut to[0..n])?;
+    Ok(got == n)
 }
 
 // Puts the first n numbers of a list in bytes at the start of `to`.
 fn take_numbers(list: &[u8], to: &mut [u32], n: usize)
     requires n_in_bounds { 4 * n ≤ length list.now }
-    requires* n_bound { do ⌜ n ≤ (← ⟦to.len()⟧) ⌝ }
+    requires n_bound { n ≤ length to.old }
 {
-    let mut i = 0;
-    while i < n {
-        let at = 4 * i;
-        to[i] = layout::read_u32(list, at);
-        i += 1;
+    for i in 0..n {
+        to[i] = layout::read_u32(list, 4 * i);
     }
 }
 
@@ -66,19 +80,15 @@ fn number_mark(i: usize) -> u32 {
 
 // Puts its mark at each place.
 fn mark_bytes(s: &mut [u8]) {
-    let mut i = 0;
-    while i < s.len() {
+    for i in 0..s.len() {
         s[i] = byte_mark(i);
-        i += 1;
     }
 }
 
 // Puts its mark at each place.
 fn mark_numbers(s: &mut [u32]) {
-    let mut i = 0;
-    while i < s.len() {
+    for i in 0..s.len() {
         s[i] = number_mark(i);
-        i += 1;
     }
 }
 
@@ -86,12 +96,10 @@ fn mark_numbers(s: &mut [u32]) {
 fn bytes_kept(s: &[u8], from: usize, to: usize) -> bool
     requires { to ≤ length s.now }
 {
-    let mut i = from;
-    while i < to {
+    for i in from..to {
         if s[i] != byte_mark(i) {
             return false;
         }
-        i += 1;
     }
     true
 }
@@ -100,12 +108,10 @@ fn bytes_kept(s: &[u8], from: usize, to: usize) -> bool
 fn numbers_kept(s: &[u32], from: usize, to: usize) -> bool
     requires { to ≤ length s.now }
 {
-    let mut i = from;
-    while i < to {
+    for i in from..to {
         if s[i] != number_mark(i) {
             return false;
         }
-        i += 1;
     }
     true
 }
@@ -116,58 +122,55 @@ fn wide(b: u8) -> u64 {
 }
 
 // Prints a space and bytes in hexadecimal digits; nothing for no bytes.
-fn print_bytes(s: &[u8]) {
+fn print_bytes(rt: &impl Print, s: &[u8]) -> io::Result<()> {
     if s.len() == 0 {
-        return;
+        return Ok(());
     }
-    io::write_all(1, b" ");
-    let mut i = 0;
-    while i < s.len() {
-        io::print_hex(1, wide(s[i]), 2);
-        i += 1;
+    print!(rt; " ")?;
+    for b in s {
+        let n = wide(*b);
+        print!(rt; "{n:02x}")?;
     }
+    Ok(())
 }
 
 // Prints what stands before a number, and the number.
-fn print_behind(front: &[u8], n: u32) {
-    io::write_all(1, front);
-    io::print_decimal(1, n as u64);
+fn print_behind(rt: &impl Print, front: &[u8], n: u32) -> io::Result<()> {
+    rt.write_all(front)?;
+    print!(rt; "{n}")
 }
 
 // Prints a space and numbers with commas between them; nothing for no numbers.
-fn print_numbers(s: &[u32]) {
+fn print_numbers(rt: &impl Print, s: &[u32]) -> io::Result<()> {
     if s.len() == 0 {
-        return;
+        return Ok(());
     }
-    print_behind(b" ", s[0]);
-    let mut i = 1;
-    while i < s.len() {
-        print_behind(b",", s[i]);
-        i += 1;
+    print_behind(rt, b" ", s[0])?;
+    for n in &s[1..] {
+        print_behind(rt, b",", *n)?;
     }
+    Ok(())
 }
 
 // Prints the end of a line: whether all else was kept.
-fn end_line(kept: bool) {
+fn end_line(rt: &impl Print, kept: bool) -> io::Result<()> {
     if kept {
-        io::write_all(1, b"\n");
-        return;
+        return println!(rt; "");
     }
-    io::write_all(1, b" touched\n");
+    println!(rt; " touched")
 }
 
 // Prints what a call returned. The result is how much the call says that it wrote, 0 for a refusal.
-fn print_returned(r: i32) -> u64 {
+fn print_returned(rt: &impl Print, r: i32) -> io::Result<u64> {
     let size = whole::size_of(r as i64);
     match size {
         Whole::Up(n) => {
-            io::print_decimal(1, n);
-            n
+            print!(rt; "{n}")?;
+            Ok(n)
         }
         Whole::Down(n) => {
-            io::write_all(1, b"-");
-            io::print_decimal(1, n);
-            0
+            print!(rt; "-{n}")?;
+            Ok(0)
         }
     }
 }
@@ -180,30 +183,30 @@ fn least(a: u64, b: usize) -> usize
 }
 
 // Prints the line of a sum, for which n bytes were lent.
-fn print_sum(r: i32, around: &[u8], n: usize)
+fn print_sum(rt: &impl Print, r: i32, around: &[u8], n: usize) -> io::Result<()>
     requires { 200 + n ≤ length around.now }
 {
-    let said = print_returned(r);
+    let said = print_returned(rt, r)?;
     let end = START + least(said, n);
-    print_bytes(&around[START..end]);
+    print_bytes(rt, &around[START..end])?;
     let kept = bytes_kept(around, 0, START) && bytes_kept(around, end, around.len());
-    end_line(kept);
+    end_line(rt, kept)
 }
 
 // Prints the line of the points of a divisor, for which n numbers were lent.
-fn print_points(r: i32, around: &[u32], n: usize)
+fn print_points(rt: &impl Print, r: i32, around: &[u32], n: usize) -> io::Result<()>
     requires { 200 + n ≤ length around.now }
 {
-    let said = print_returned(r);
+    let said = print_returned(rt, r)?;
     let end = START + 2 * least(said, n / 2);
-    print_numbers(&around[START..end]);
+    print_numbers(rt, &around[START..end])?;
     let kept = numbers_kept(around, 0, START) && numbers_kept(around, end, around.len());
-    end_line(kept);
+    end_line(rt, kept)
 }
 
 // Marks an array and lends n bytes of it to points_sum.
 fn call_sum(curve: &[u8], numbers: &[u32], around: &mut [u8], n: usize) -> i32
-    requires* { do ⌜ 200 + n ≤ (← ⟦around.len()⟧) ⌝ }
+    requires { 200 + n ≤ length around.old }
 {
     mark_bytes(around);
     let end = START + n;
@@ -212,7 +215,7 @@ fn call_sum(curve: &[u8], numbers: &[u32], around: &mut [u8], n: usize) -> i32
 
 // Marks an array and lends n numbers of it to points_of.
 fn call_points(curve: &[u8], divisor: &[u8], around: &mut [u32], n: usize) -> i32
-    requires* { do ⌜ 200 + n ≤ (← ⟦around.len()⟧) ⌝ }
+    requires { 200 + n ≤ length around.old }
 {
     mark_numbers(around);
     let end = START + n;
@@ -220,7 +223,7 @@ fn call_points(curve: &[u8], divisor: &[u8], around: &mut [u32], n: usize) -> i3
 }
 
 // Makes a call of points_sum, its list of numbers in bytes and n bytes for the result, and prints its line.
-fn trial_sum(curve: &[u8], list: &[u8], n: usize)
+fn trial_sum(rt: &impl Print, curve: &[u8], list: &[u8], n: usize) -> io::Result<()>
     requires list_len_bound { length list.now ≤ 66000 }
     requires n_bound { n ≤ 600 }
 {
@@ -229,68 +232,85 @@ fn trial_sum(curve: &[u8], list: &[u8], n: usize)
     take_numbers(list, &mut numbers, count);
     let mut around = [0u8; AROUND];
     let r = call_sum(curve, &numbers[0..count], &mut around, n);
-    print_sum(r, &around, n);
+    print_sum(rt, r, &around, n)
 }
 
 // Makes a call of points_of, n numbers for the result, and prints its line.
-fn trial_points(curve: &[u8], divisor: &[u8], n: usize)
+fn trial_points(rt: &impl Print, curve: &[u8], divisor: &[u8], n: usize) -> io::Result<()>
     requires { n ≤ 600 }
 {
     let mut around = [0u32; AROUND];
     let r = call_points(curve, divisor, &mut around, n);
-    print_points(r, &around, n);
+    print_points(rt, r, &around, n)
 }
 
 // Reads the arguments of a call, makes it and prints its line; false if there are no more calls.
-fn call(which: u8, size: usize, second_size: usize, n: usize) -> bool {
+fn call(
+    rt: &impl Print,
+    reader: &mut impl Read,
+    which: u8,
+    size: usize,
+    second_size: usize,
+    n: usize,
+) -> io::Result<bool> {
     if BYTES < size {
-        return stop(b"a curve is too long\n");
+        return stop(rt, b"a curve is too long\n");
     }
     if BYTES < second_size {
-        return stop(b"an argument is too long\n");
+        return stop(rt, b"an argument is too long\n");
     }
     if MOST < n {
-        return stop(b"a result is too long\n");
+        return stop(rt, b"a result is too long\n");
     }
     let mut curve = [0u8; BYTES];
-    if !read_part(&mut curve, size) {
-        return stop(b"a curve is cut short\n");
+    if !read_part(reader, &mut curve, size)? {
+        return stop(rt, b"a curve is cut short\n");
     }
     let mut second = [0u8; BYTES];
-    if !read_part(&mut second, second_size) {
-        return stop(b"an argument is cut short\n");
+    if !read_part(reader, &mut second, second_size)? {
+        return stop(rt, b"an argument is cut short\n");
     }
     if which == 0 {
-        trial_sum(&curve[0..size], &second[0..second_size], n);
-        return true;
+        trial_sum(rt, &curve[0..size], &second[0..second_size], n)?;
+        return Ok(true);
     }
     if which == 1 {
-        trial_points(&curve[0..size], &second[0..second_size], n);
-        return true;
+        trial_points(rt, &curve[0..size], &second[0..second_size], n)?;
+        return Ok(true);
     }
-    stop(b"no such call\n")
+    stop(rt, b"no such call\n")
 }
 
 // Reads a call, makes it and prints its line; false if there are no more.
-fn turn() -> bool {
+fn turn(rt: &impl Print, reader: &mut impl Read) -> io::Result<bool> {
     let mut head = [0u8; HEAD];
-    let got = io::read_full(0, &mut head);
+    let got = read_full(reader, &mut head)?;
     if got == 0 {
-        return false;
+        return Ok(false);
     }
     if got < HEAD {
-        return stop(b"a call is cut short\n");
+        return stop(rt, b"a call is cut short\n");
     }
     let size = layout::read_u32(&head, 1);
     let second_size = layout::read_u32(&head, 5);
     let n = layout::read_u32(&head, 9);
-    call(head[0], size as usize, second_size as usize, n as usize)
+    call(
+        rt,
+        reader,
+        head[0],
+        size as usize,
+        second_size as usize,
+        n as usize,
+    )
 }
 
-// Turns are counted down from a number that no run uses up, for a proved loop has to end.
-fn main() {
-    let mut turns = u64::MAX;
-    while turns > 0 && turn() {
-        turns -= 1;
+// The turns are bounded by a number that no run uses up, for a proved loop has to end.
+fn main(rt: HostRuntime) -> io::Result<()> {
+    let mut reader = rt.reader();
+    for _ in 0..u64::MAX {
+        if !turn(&rt, &mut reader)? {
+            break;
+        }
     }
+    Ok(())
 }

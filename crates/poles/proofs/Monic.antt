@@ -4,7 +4,7 @@
 --   monic-coefficient, coefficient-monic
 --                      g is monic with lead n exactly if n is a pole number, its coefficient there is 1 and those above n are 0
 use mathlib.Core.Path.{◌≡◌, sym, ◌∙◌, ap, ap₂, subst}
-use Prim.Native.Nat.{ℕ, zero, suc, ◌<◌}
+use Prim.Native.Nat.{ℕ, suc, ◌<◌}
 use native.Mathlib.Omega.{arith}
 use Rattle.algebra.specs.Ring.{Field}
 use Rattle.algebra.proofs.Laws as L

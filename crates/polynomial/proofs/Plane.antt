@@ -1,7 +1,7 @@
 -- The derivative by x in k[x, y].
 --   coef-by_x              the coefficient of by_x f at yⁱ is the derivative of that of f
 use mathlib.Core.Path.{◌≡◌}
-use Prim.Native.Nat.{ℕ, zero}
+use Prim.Native.Nat.{ℕ}
 use Rattle.algebra.specs.Ring.{CommRing}
 use Rattle.polynomial.specs.Poly.{Poly, coef}
 use Rattle.polynomial.specs.Deriv.{deriv}

@@ -7,7 +7,7 @@
 --   const A k          the polynomial k
 --   X A                the variable
 --   poly_path          polynomials with the same coefficients are equal
-use Rattle.std.specs.Prelude.{◌≡◌, refl, ℕ, zero}
+use Rattle.std.specs.Prelude.{◌≡◌, refl, ℕ}
 use Rattle.std.proofs.Math.Path.{fun_ext}
 use Rattle.std.proofs.Math.Logic.{∥∥₁_prop}
 use mathlib.Core.HLevel.{Σ_prop_path, Σ_set, prop→set, →_set}

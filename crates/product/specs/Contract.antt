@@ -2,7 +2,6 @@
 --   ProductAsked, Multiplied     product: the span is the product ideal
 --   PutAsked, ProductsPut        insert_products: the span afterwards is that of the triple and the products
 use Rattle.std.specs.Prelude.{List, ℕ, ◌≤◌}
-use Rattle.algebra.specs.Ring.{CommRing}
 use Rattle.prime.specs.Prime.{Prime}
 use Rattle.ideal.specs.Ideal.{SameIdeal, Product}
 use Rattle.ideal.proofs.Span.{Span}

@@ -5,7 +5,6 @@
 --   ClosedAsked, ClosedTest      closed: is the span closed under y
 --   AtAsked, AtTest              closed_at: is y times the j-th member in the span
 use Rattle.std.specs.Prelude.{◌≡◌, Bool, true, false, List, ℕ, ◌%◌, ◌<◌, ◌≤◌}
-use Rattle.algebra.specs.Ring.{CommRing}
 use Rattle.curve.specs.Curve.{y}
 use Rattle.curve.specs.Sequence.{coefficient}
 use Rattle.field.specs.Residue.{Z}

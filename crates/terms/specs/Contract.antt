@@ -3,7 +3,6 @@
 --   RowsOf p C ys g           … which stand for g, y·g and y²·g
 --   TimesAsked, Times         times: b·g from the y-multiples of g
 use Rattle.std.specs.Prelude.{◌≡◌, List, ℕ, ◌+◌, ◌*◌, ◌-◌, ◌<◌, ◌≤◌, length}
-use Rattle.algebra.specs.Ring.{CommRing}
 use Rattle.field.specs.Residue.{Z}
 use Rattle.curve.specs.Curve.{Curve, Coordinate}
 use Rattle.vector.specs.Vector.{Vec, Top, row, element, y_to, width}

@@ -9,7 +9,6 @@ use mathlib.Core.List.{List, []}
 use Prim.Native.Nat.{ℕ, zero, suc, ◌<◌}
 use native.Mathlib.Omega.{arith}
 use lib.ListN.{replicate}
-use Rattle.algebra.specs.Ring.{CommRing}
 use Rattle.ideal.specs.Ideal.{SameIdeal}
 use Rattle.ideal.proofs.Span.{Span, span_same}
 use Rattle.vector.specs.Vector.{Vec, at, row, element, width}

@@ -4,7 +4,6 @@
 --   AllAsked, AllInserted        insert_all: the span afterwards is the span of the triple and the three vectors
 --   Whole                        whole: the degrees are (0, 4, 8)
 use Rattle.std.specs.Prelude.{◌≡◌, List, ◌∷◌, ◌++◌, ℕ, suc, ◌+◌, ◌%◌, ◌<◌, ◌≤◌}
-use Rattle.algebra.specs.Ring.{CommRing}
 use Rattle.prime.specs.Prime.{Prime}
 use Rattle.ideal.specs.Ideal.{SameIdeal}
 use Rattle.ideal.proofs.Span.{Span}

@@ -9,7 +9,6 @@
 --   Spanned S t        their span over k[x]
 --   listed f n bs      the list f (n − 1), …, f 0, bs
 use Rattle.std.specs.Prelude.{◌≡◌, ◌⊎◌, List, ◌∷◌, map, ℕ, zero, suc, ◌%◌, ◌<◌, length}
-use Rattle.algebra.specs.Ring.{CommRing}
 use Rattle.ideal.proofs.Span.{Span}
 use Rattle.vector.specs.Vector.{Vec, Top, at, row, width, element}
 use Rattle.triple.specs.Setting.{Setting, ring, poles_of}

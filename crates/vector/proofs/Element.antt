@@ -6,7 +6,7 @@
 --   added_value                    what axpy does to the element
 use mathlib.Core.Path.{◌≡◌, sym, ◌∙◌, ap, ap₂}
 use mathlib.Core.List.{List}
-use Prim.Native.Nat.{ℕ, zero, ◌+◌, ◌*◌, ◌-◌, ◌/◌, ◌%◌, ◌≤◌, ◌<◌}
+use Prim.Native.Nat.{ℕ, ◌+◌, ◌*◌, ◌-◌, ◌/◌, ◌%◌, ◌≤◌, ◌<◌}
 use native.Mathlib.Omega.{arith}
 use native.Mathlib.Decide.{dec_lt}
 use lib.ListN.{length}
@@ -20,7 +20,7 @@ use Rattle.curve.proofs.Pole.{Located, place, gap, locate, pole-is_pole}
 use Rattle.curve.specs.Sequence.{coefficient}
 use Rattle.curve.proofs.Term.{coefficient-pole, coefficient-gap, coefficient_ext, coefficient-add, coefficient-constant-mul, coefficient-vector}
 use Rattle.curve.proofs.Vector.{vector-zero, vector-scale}
-use Rattle.vector.specs.Vector.{Vec, Top, at, res, element, past_end, x_to, scalar}
+use Rattle.vector.specs.Vector.{Vec, Top, res, element, past_end, x_to, scalar}
 use Rattle.vector.specs.Contract.{Added}
 use Rattle.vector.proofs.Loop.{gap-zero}
 use Rattle.vector.proofs.Monomial.{shift-high, shift-low}

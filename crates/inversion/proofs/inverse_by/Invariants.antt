@@ -1,9 +1,6 @@
 -- `inversion::inverse_by` meets its contract. The loop's invariant is State of proofs/Binary, and its measure x + y.
-use Rattle.std.proofs.Common.{◌+◌, not, ltb, arith}
-use mathlib.Core.Bool.{beq}
-use lib.Count.{count_trailing_zeros}
-use Rattle.inversion.proofs.Binary.{State, Turn, turn}
-use Rattle.inversion.proofs.inverse_by.Lts as lts
+use Rattle.std.proofs.Common.{◌+◌}
+use Rattle.inversion.proofs.Binary.{State}
 use Rattle.inversion.proofs.inverse_by.Given as goal
 
 abbrev pub invariant-loop-y : goal.invariant-loop-y

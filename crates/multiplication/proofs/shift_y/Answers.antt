@@ -1,6 +1,5 @@
 -- `multiplication::shift_y` meets its contract. The loop's invariant: what it ensures holds for the places below n; its measure: top − n. What it
 -- reads off the table is y_at (n + 4) by computation.
-use Prim.Native.Nat.{◌-◌}
 use native.Mathlib.Omega.{arith}
 use Rattle.terms.proofs.Entry.{entry-moved, entry-dropped}
 use Rattle.multiplication.proofs.Shift.{shifted_start, shifted_more, shifted_skip, shifted_as, shifted_end}

@@ -1,5 +1,4 @@
 -- `multiplication::times_y` meets its contract. The loop's invariant is YPart of proofs/ByY, its measure top − n.
-use Prim.Native.Nat.{◌-◌}
 use native.Mathlib.Omega.{arith}
 use Rattle.multiplication.proofs.ByY.{y-start, y-asked, y-more, y-end}
 use Rattle.multiplication.proofs.times_y.Goals as goal

@@ -1,5 +1,4 @@
 -- `packing::bytes` meets its contract. The loop's invariant: the bytes up to `place` are written, and `left` is the rest of the number.
-use Prim.Native.Nat.{◌-◌}
 use native.Mathlib.Omega.{arith}
 use Rattle.packing.proofs.Laid.{written_none, written-more, written_all}
 use Rattle.packing.proofs.bytes.Goals as goal

@@ -1,5 +1,4 @@
 -- `packing::words` meets its contract. The loop's invariant: the first i numbers are taken up; of their bits `done` bytes are written, and `held` holds the rest.
-use Prim.Native.Nat.{◌-◌}
 use native.Mathlib.Omega.{arith}
 use Rattle.packing.proofs.Taken.{taken_none, taken_held, taken_room, taken_written, taken_all}
 use Rattle.packing.proofs.words.Goals as goal

@@ -1,5 +1,4 @@
 -- `span::closed` meets its contract. The loop's invariant is Closing of proofs/Reduction, its measure 3 − j.
-use Prim.Native.Nat.{◌-◌}
 use mathlib.Core.Path.{ap}
 use mathlib.Core.Bool.{not}
 use native.Mathlib.Omega.{arith}

@@ -1,6 +1,5 @@
 -- `terms::times` meets its contract. The loop's invariant is TimesPart of proofs/Terms, its measure e − n. What it reads off the table is
 -- y_at n and x_at n by computation.
-use Prim.Native.Nat.{◌-◌}
 use native.Mathlib.Omega.{arith}
 use Rattle.terms.proofs.Entry.{entry-fits}
 use Rattle.terms.proofs.Product.{part-start, turn_asked, turn_more, turn_skip, part_end, part_as}

@@ -1,5 +1,5 @@
 -- `text::put_bytes` meets its contract. The loop's invariant: the first i bytes are put.
-use Prim.Native.Nat.{ℕ, ◌-◌, ◌+◌}
+use Prim.Native.Nat.{ℕ, ◌+◌}
 use native.Mathlib.Omega.{arith}
 use native.Mathlib.Numerals.{add-one}
 use mathlib.Core.Path.{refl, sym, ap, ◌∙◌}

@@ -1,5 +1,4 @@
 -- `triple::insert_all` meets its contract. The loop's invariant is Filling of proofs/Filling, its measure 3 − j.
-use Prim.Native.Nat.{◌-◌}
 use native.Mathlib.Omega.{arith}
 use Rattle.triple.proofs.Filling.{fill_start, fill_asked, fill_more, fill_end, fill_stop}
 use Rattle.triple.proofs.insert_all.Goals as goal

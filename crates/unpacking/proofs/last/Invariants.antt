@@ -1,5 +1,4 @@
 -- `unpacking::last` meets its contract. The loop's invariant: n is the number of the bytes from place i on.
-use Prim.Native.Nat.{◌-◌}
 use Rattle.unpacking.proofs.Steps.{Summed}
 use Rattle.unpacking.proofs.last.Given as goal
 

@@ -1,5 +1,4 @@
 -- `vector::axpy` meets its contract. The loop's invariant: what it ensures holds for the numbers below i; its measure: e − i.
-use Prim.Native.Nat.{◌-◌}
 use native.Mathlib.Omega.{arith}
 use Rattle.vector.proofs.Loop.{added_start, added_none, added_skip, added_more, added_end}
 use Rattle.vector.proofs.axpy.Goals as goal

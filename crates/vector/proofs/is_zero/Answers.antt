@@ -1,5 +1,4 @@
 -- `vector::is_zero` meets its contract. The loop's invariant: the numbers below i are 0; its measure: top − i.
-use Prim.Native.Nat.{◌-◌}
 use native.Mathlib.Omega.{arith}
 use Rattle.vector.proofs.Loop.{seen_more, zero_test_true, zero_test_false}
 use Rattle.vector.proofs.is_zero.Goals as goal

@@ -1,5 +1,4 @@
 -- `vector::scale` meets its contract. The loop's invariant: what it ensures holds for the numbers below i; its measure: e − i.
-use Prim.Native.Nat.{◌-◌}
 use native.Mathlib.Omega.{arith}
 use Rattle.vector.proofs.Loop.{scaled_start, scaled_more, scaled_end}
 use Rattle.vector.proofs.scale.Goals as goal

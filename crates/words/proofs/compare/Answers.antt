@@ -1,5 +1,4 @@
 -- `words::compare` meets its contract. The loop's invariant: the words before the i-th agree.
-use Prim.Native.Nat.{◌-◌}
 use mathlib.Core.Path.{sym, ◌∙◌}
 use native.Mathlib.Omega.{arith}
 use borrow.Author.Count.{below_more}

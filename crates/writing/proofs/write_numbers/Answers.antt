@@ -1,5 +1,4 @@
 -- `writing::write_numbers` meets its contract. The loop's invariant: the first i numbers are written.
-use Prim.Native.Nat.{◌-◌}
 use mathlib.Core.Path.{◌≡◌, refl, ap, ◌∙◌}
 use native.Mathlib.Omega.{arith}
 use Rattle.writing.proofs.Stores.{filled, filled_none, filled_turn}
