@@ -42,13 +42,13 @@ module _ (c : List ℕ) (A : AcceptedCurve c) where
   pub reduced_record : {J : (Ring c).Car → Type 0} → BasedIdeal P J → (w : List ℕ) × ReducedOf c J w
   reduced_record {J} b = go (record_reduced (setting_of c A) (accepted_limit c A) b)
     where
-      go : OneRecord 40 (ReducedRecord (setting_of c A) J) → (w : List ℕ) × ReducedOf c J w
+      go : OneRecord (ReducedRecord (setting_of c A) J) → (w : List ℕ) × ReducedOf c J w
       go o = (o.bytes, record { curve = A; accepted = (o.has.bytes, o.has.accepted); reduced = o.has.reduced })
 
   pub footprint_record : {I : (Ring c).Car → Type 0} → SmallFootprint P I → (w : List ℕ) × Record c w × SameIdeal (Ring c) (Ideal c w) I
   footprint_record {I} s = go (record_with (setting_of c A) (accepted_limit c A) s)
     where
-      go : OneRecord 40 (RecordWith (setting_of c A) I) → (w : List ℕ) × Record c w × SameIdeal (Ring c) (Ideal c w) I
+      go : OneRecord (RecordWith (setting_of c A) I) → (w : List ℕ) × Record c w × SameIdeal (Ring c) (Ideal c w) I
       go o = (o.bytes, (o.has.bytes, o.has.accepted), same_sym (Ring c) o.has.same)
 
   pub sum_record : (a b : List ℕ) → Accepted c a → Accepted c b → (w : List ℕ) × IsSum c a b w

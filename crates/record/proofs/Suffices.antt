@@ -2,7 +2,7 @@
 -- exactly one record of its reduced ideal, and this record has 4 to 40 bytes.
 --   RecordWith S I w       w is an accepted record whose ideal is I
 --   ReducedRecord S J w    w is the record of the reduced ideal of J
---   OneRecord most G       exactly one string of bytes has G, and it has from 4 to `most` bytes
+--   OneRecord G            exactly one string of bytes has G, and it has 4 to 40 bytes
 --   record_with            every based ideal with all leads from 6 on has one record
 --   record_reduced         every based ideal with a nonzero element has one record of its reduced ideal
 --   record_length_suffices the demand
@@ -32,12 +32,12 @@ use Rattle.divisor.proofs.Codes.{size-least, size-most}
 use Rattle.record.proofs.Accepted.{reads_accepted}
 use Rattle.record.proofs.Unique.{accepted_unique, residue_record, residue-record_bytes, residue_record_length, residue_record_reads, residue_record_ideal}
 
-pub record OneRecord (most : ℕ) (G : List ℕ → Type 0) : Type 0 where
+pub record OneRecord (G : List ℕ → Type 0) : Type 0 where
   pub bytes : List ℕ
   pub has : G bytes
   pub only : (w : List ℕ) → G w → w ≡ bytes
   pub shortest : 4 ≤ length bytes
-  pub longest : length bytes ≤ most
+  pub longest : length bytes ≤ 40
 
 module _ {p : ℕ} (S : Setting p) where
   pub record RecordWith (I : (ring S).Car → Type 0) (w : List ℕ) : Type 0 where
@@ -55,7 +55,7 @@ module _ {p : ℕ} (S : Setting p) where
     the_record : (G : List ℕ → Type 0) (κ : Kind) (n : ℕ → (Z p).Car) → IsBasis S.curve κ n
         → (RecordWith (IdealOf S.curve κ n) (residue_record p κ n) → G (residue_record p κ n))
         → ((w : List ℕ) → G w → RecordWith (IdealOf S.curve κ n) w)
-        → OneRecord 40 G
+        → OneRecord G
     the_record G κ n b make back =
         record {
           bytes = residue_record p κ n;
@@ -86,16 +86,16 @@ module _ {p : ℕ} (S : Setting p) where
         ideal : SameIdeal (ring S) (IdealOf S.curve κ n) (IdealOfBytes p S.curve (residue_record p κ n))
         ideal h = Iff.symm (residue_record_ideal p S.curve pos small κ n h)
 
-    pub record_with : {I : (ring S).Car → Type 0} → SmallFootprint (poles_of S) I → OneRecord 40 (RecordWith I)
+    pub record_with : {I : (ring S).Car → Type 0} → SmallFootprint (poles_of S) I → OneRecord (RecordWith I)
     record_with {I} s = go (record_exists (F p S.prime) S.curve S.nonzero s)
       where
-        go : (κ : Kind) × (n : ℕ → (Z p).Car) × IsBasis S.curve κ n × SameIdeal (ring S) I (IdealOf S.curve κ n) → OneRecord 40 (RecordWith I)
+        go : (κ : Kind) × (n : ℕ → (Z p).Car) × IsBasis S.curve κ n × SameIdeal (ring S) I (IdealOf S.curve κ n) → OneRecord (RecordWith I)
         go (κ, n, b, e) =
             the_record (RecordWith I) κ n b
             (λ r. record { bytes = r.bytes; accepted = r.accepted; same = λ g. Iff.trans (e g) (r.same g) })
             (λ w r. record { bytes = r.bytes; accepted = r.accepted; same = λ g. Iff.trans (Iff.symm (e g)) (r.same g) })
 
-    from_record : {J : (ring S).Car → Type 0} → IsIdeal (ring S) J → RecordOf (F p S.prime) S.curve S.nonzero J → OneRecord 40 (ReducedRecord J)
+    from_record : {J : (ring S).Car → Type 0} → IsIdeal (ring S) J → RecordOf (F p S.prime) S.curve S.nonzero J → OneRecord (ReducedRecord J)
     from_record {J} i r =
         the_record (ReducedRecord J) r.kind r.numbers r.basis
         (λ t.
@@ -109,15 +109,15 @@ module _ {p : ℕ} (S : Setting p) where
         d : IsReduced (poles_of S) J (IdealOf S.curve r.kind r.numbers)
         d = r.reduced
 
-    pub record_reduced : {J : (ring S).Car → Type 0} → BasedIdeal (poles_of S) J → OneRecord 40 (ReducedRecord J)
+    pub record_reduced : {J : (ring S).Car → Type 0} → BasedIdeal (poles_of S) J → OneRecord (ReducedRecord J)
     record_reduced j = from_record j.ideal (record_of (F p S.prime) S.curve S.nonzero j)
 
-    generated_reduced : (gs : List (ring S).Car) → ¬ Every (λ g. g ≡ (ring S).zero) gs → OneRecord 40 (ReducedRecord (Generated (ring S) gs))
+    generated_reduced : (gs : List (ring S).Car) → ¬ Every (λ g. g ≡ (ring S).zero) gs → OneRecord (ReducedRecord (Generated (ring S) gs))
     generated_reduced gs h = from_record (generated_ideal (ring S) gs) (record_suffices (F p S.prime) S.curve S.nonzero gs h)
 
 -- On an accepted curve c, for all elements gs of its ring that are not all zero, exactly one string of bytes is the record of the reduced ideal
 -- of the ideal that gs generate, and it has 4 to 40 bytes.
 pub record_length_suffices : (c : List ℕ) (A : AcceptedCurve c) (gs : List (Coordinate (equation c)).Car)
     → ¬ Every (λ g. g ≡ (Coordinate (equation c)).zero) gs
-    → OneRecord 40 (ReducedRecord (setting_of c A) (Generated (Coordinate (equation c)) gs))
+    → OneRecord (ReducedRecord (setting_of c A) (Generated (Coordinate (equation c)) gs))
 record_length_suffices c A gs h = generated_reduced (setting_of c A) (accepted_limit c A) gs h

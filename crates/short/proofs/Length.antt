@@ -1,6 +1,7 @@
 -- The demand "that every class has a record of 4 to 40 bytes", for short records: with w the bit length of p − 1, 4 + ⌈9·w/8⌉ bytes are enough for every class.
 --   short-fits             an accepted short record has from 4 to 4 + ⌈9·w/8⌉ bytes
 --   ShortReduced c A gs w  w is the short form of the record of the reduced ideal of the ideal that gs generate
+--   OneShort most G        exactly one string of bytes has G, and it has from 4 to `most` bytes
 --   short_length_suffices  there is exactly one such string of bytes, and it has from 4 to 4 + ⌈9·w/8⌉ bytes
 use mathlib.Core.Path.{◌≡◌, refl, subst}
 use mathlib.Core.List.{List}
@@ -23,6 +24,13 @@ use Rattle.short.proofs.Width.{short-most}
 use Rattle.short.proofs.Accepted.{accepted_short, short_length}
 use Rattle.short.proofs.Round.{ShortRecord, short-one}
 
+pub record OneShort (most : ℕ) (G : List ℕ → Type 0) : Type 0 where
+  pub bytes : List ℕ
+  pub has : G bytes
+  pub only : (w : List ℕ) → G w → w ≡ bytes
+  pub shortest : 4 ≤ length bytes
+  pub longest : length bytes ≤ most
+
 -- how many bytes a short record has at most
 abbrev pub short-longest : List ℕ → ℕ
 short-longest c = 4 + filled (width (modulus c)) 9
@@ -36,13 +44,13 @@ abbrev pub ShortReduced : (c : List ℕ) (A : AcceptedCurve c) → List (Coordin
 ShortReduced c A gs w = (a : List ℕ) × ReducedRecord (setting_of c A) (Generated (Coordinate (equation c)) gs) a × IsShort c a w
 
 pub short_length_suffices : (c : List ℕ) (A : AcceptedCurve c) (gs : List (Coordinate (equation c)).Car)
-    → ¬ Every (λ g. g ≡ (Coordinate (equation c)).zero) gs → OneRecord (short-longest c) (ShortReduced c A gs)
+    → ¬ Every (λ g. g ≡ (Coordinate (equation c)).zero) gs → OneShort (short-longest c) (ShortReduced c A gs)
 short_length_suffices c A gs h = go (accepted_reads (modulus c) (equation c) one.bytes one.has.accepted)
   where
-    one : OneRecord 40 (ReducedRecord (setting_of c A) (Generated (Coordinate (equation c)) gs))
+    one : OneRecord (ReducedRecord (setting_of c A) (Generated (Coordinate (equation c)) gs))
     one = record_length_suffices c A gs h
 
-    go : (κ : Kind) × Reads (modulus c) (equation c) κ one.bytes → OneRecord (short-longest c) (ShortReduced c A gs)
+    go : (κ : Kind) × Reads (modulus c) (equation c) κ one.bytes → OneShort (short-longest c) (ShortReduced c A gs)
     go (κ, reads) =
         record {
           bytes = form;
