@@ -100,6 +100,11 @@ def recorded(rhs, names):
     if before and not before.endswith(" in") and not before.endswith("."):
         return None
     parts = split_top(rest[i + 1 : -1])
+    while len(parts) < len(names) and parts and parts[-1].startswith("(") and parts[-1].endswith(")"):
+        more = split_top(parts[-1][1:-1])
+        if len(more) < 2:
+            break
+        parts = parts[:-1] + more
     if len(parts) != len(names):
         return None
     return rest[:i] + "record { " + " ".join(f"{n} = {p};" for n, p in zip(names, parts)) + " }"
@@ -221,6 +226,11 @@ class Function:
             names = ensured(self.callee[step])
             if len(names) > 1:
                 text = re.sub(rf"(?<![^\s(){{}},;]){re.escape(x)}\.ensures\.(\d)", lambda q: f"{x}.ensures.{names[int(q.group(1))]}" if int(q.group(1)) < len(names) else q.group(0), text)
+        for m in list(re.finditer(r"\blet ([^\s=:]+) = c\.([^\s(){},;.]+)\.ensures in", text)):
+            x, step = m.groups()
+            names = ensured(self.callee.get(step))
+            if len(names) > 1:
+                text = re.sub(rf"(?<![^\s(){{}},;]){re.escape(x)}\.(\d)", lambda q: f"{x}.{names[int(q.group(1))]}" if int(q.group(1)) < len(names) else q.group(0), text)
         return text
 
 
@@ -231,6 +241,8 @@ def own_clauses(src, fn, kind="requires"):
 
 
 def ensured(callee):
+    if not callee or "::" not in callee:
+        return []
     crate, fn = callee.split("::")[0], callee.split("::")[-1]
     for d, _, fs in os.walk(f"crates/{crate}/src"):
         for f in fs:
@@ -344,9 +356,9 @@ def main():
         module = f"Rattle.{cname}.proofs.{path}"
         everything = "\n".join(ans + helpers)
         if "(ap not " in everything:
-            for name, module in (("ap", "mathlib.Core.Path"), ("not", "mathlib.Core.Bool")):
+            for name, where in (("ap", "mathlib.Core.Path"), ("not", "mathlib.Core.Bool")):
                 if not re.search(r"\{(?:[^}]*, )?" + name + r"[,}]", "\n".join(uses)):
-                    uses.append(f"use {module}.{{{name}}}")
+                    uses.append(f"use {where}.{{{name}}}")
         if "rules" in everything:
             uses.append("use borrow.Author.Rules.{rules}")
 

@@ -20,7 +20,7 @@ pub const INPUT_ROOM: usize = CURVE_SIZE + reader::LIST_LIMIT + 1;
 // All that is printed for what was found of a list.
 fn put_pass(out: &mut [u8], p: PassAnswer) -> usize
     requires printable { Printable p }
-    requires* longest_bound { do ⌜ longest ≤ (← ⟦out.len()⟧) ⌝ }
+    requires longest_bound { longest ≤ length out.old }
     ensures { PassPut p out.old result out.new }
 {
     match p {
@@ -35,7 +35,7 @@ fn put_pass(out: &mut [u8], p: PassAnswer) -> usize
 
 // All that is printed for a curve and a list.
 fn put_report(out: &mut [u8], curve: &[u8], list: &[u8]) -> usize
-    requires* { do ⌜ longest ≤ (← ⟦out.len()⟧) ⌝ }
+    requires { longest ≤ length out.old }
     ensures { PrintedOn curve.now list.now out.old result out.new }
 {
     let read = reader::read_curve(curve);
@@ -61,7 +61,7 @@ fn curve_end(n: usize) -> usize
 
 // All that is printed for an input, put at the start of `out`; returns that part of `out`.
 pub fn report<'a>(input: &[u8], out: &'a mut [u8]) -> &'a mut [u8]
-    requires* { do ⌜ 256 ≤ (← ⟦out.len()⟧) ⌝ }
+    requires { 256 ≤ length out.old }
     ensures { Report input.now result.now }
 {
     let end = curve_end(input.len());
@@ -74,7 +74,7 @@ pub fn report<'a>(input: &[u8], out: &'a mut [u8]) -> &'a mut [u8]
 pub fn report_read<'a>(read: &[u8], n: usize, out: &'a mut [u8]) -> &'a mut [u8]
     requires enough_in_bounds { enough ≤ length read.now }
     requires n_in_bounds { n ≤ length read.now }
-    requires* do_bound { do ⌜ 256 ≤ (← ⟦out.len()⟧) ⌝ }
+    requires room_bound { 256 ≤ length out.old }
     ensures { ReportsRead read.now n result.now }
 {
     report(&read[0..n], out)

@@ -81,8 +81,8 @@ module _ (c s : List ℕ) (is-E : c ≡ E) (is-start : s ≡ start) where
   pub asked : (cs : List ℕ) → Valid 5 64 cs → RunAsked c s 5 cs 64
   asked cs v = record { curve = subst AcceptedCurve (sym is-E) on_E; list = joined records; records = records; given = given-here; valid = v }
 
-  pub few-left : {cs s' : List ℕ} {r : ℕ} → RunMade c s 5 cs s' r → r ≤ 5
-  few-left made = let (ran, end) = made (joined records) records given-here in omega (arith, ran.left, end.left)
+  pub few-left : (cs s' : List ℕ) (r : ℕ) → RunMade c s 5 cs s' r → r ≤ 5
+  few-left cs s' r made = let (ran, end) = made (joined records) records given-here in omega (arith, ran.left, end.left)
 
 pub record Returned (a : ℤ) : Type 0 where
   pub n : ℕ

@@ -6,6 +6,8 @@ ghost use Rattle.worked.specs.Table.{E};
 ghost use Rattle.pool.specs.Run.{Valid};
 ghost use Rattle.pool_test.specs.Start.{start};
 
+use std::io;
+
 // The curve E: p = 5, y³ + x⁴ + 1.
 fn curve() -> [u8; 44]
     ensures { result ≡ E }
@@ -65,42 +67,43 @@ fn list_sum(out: &mut [u8]) -> usize
 }
 
 // Prints a number and a text behind it.
-fn print_line(n: u32, text: &[u8])
+fn print_line(rt: &impl Print, n: u32, text: &[u8]) -> io::Result<()>
     requires { length text.now ≤ 40 }
 {
     let mut line = [0u8; 50];
     let named = text::put_number(&mut line, 0, n);
     let end = text::put_bytes(&mut line, named, text);
-    io::write_all(1, &line[..end]);
+    rt.write_all(&line[..end])
 }
 
 // Carries the calls out and prints how many records are left. If it is one, then also whether it is the sum of the list.
-fn trial(calls: &[u32])
+fn trial(rt: &impl Print, calls: &[u32]) -> io::Result<()>
     requires { Valid 5 64 calls.now }
 {
     let mut s = lay_out();
     let left = run(calls, &mut s);
     if left != 1 {
-        print_line(left as u32, b" left\n");
-        return;
+        return print_line(rt, left as u32, b" left\n");
     }
     let mut sum = [0u8; 40];
     let n = list_sum(&mut sum);
     let walk = words::compare(&s[0..n], &sum[0..n]);
     if walk.same {
-        print_line(1, b" left, equal to the list sum\n");
-        return;
+        return print_line(rt, 1, b" left, equal to the list sum\n");
     }
-    print_line(1, b" left, unlike the list sum\n");
+    print_line(rt, 1, b" left, unlike the list sum\n")
 }
 
 // A call is two places and the length of its buffer; a buffer under 40 bytes is refused, and the pool stays.
-fn main() {
-    trial(&[0, 1, 40, 0, 1, 40, 0, 1, 40, 0, 1, 40]);
-    trial(&[4, 0, 40, 3, 0, 41, 2, 0, 64, 1, 0, 40]);
-    trial(&[0, 1, 40, 0, 1, 40, 2, 1, 40, 1, 0, 40]);
-    trial(&[1, 3, 39, 1, 3, 40, 0, 2, 0, 0, 2, 64, 2, 1, 40, 1, 0, 40]);
-    trial(&[0, 4, 40, 2, 1, 39, 2, 1, 64]);
-    trial(&[0, 1, 0, 3, 2, 39]);
-    trial(&[]);
+fn main(rt: HostRuntime) -> io::Result<()> {
+    trial(&rt, &[0, 1, 40, 0, 1, 40, 0, 1, 40, 0, 1, 40])?;
+    trial(&rt, &[4, 0, 40, 3, 0, 41, 2, 0, 64, 1, 0, 40])?;
+    trial(&rt, &[0, 1, 40, 0, 1, 40, 2, 1, 40, 1, 0, 40])?;
+    trial(
+        &rt,
+        &[1, 3, 39, 1, 3, 40, 0, 2, 0, 0, 2, 64, 2, 1, 40, 1, 0, 40],
+    )?;
+    trial(&rt, &[0, 4, 40, 2, 1, 39, 2, 1, 64])?;
+    trial(&rt, &[0, 1, 0, 3, 2, 39])?;
+    trial(&rt, &[])
 }

@@ -17,7 +17,7 @@ pub const LONGEST: usize = 256;
 
 // A name and a number on a line.
 fn put_line(out: &mut [u8], at: usize, name: &[u8], n: u32) -> usize
-    requires* { do ⌜ at + (← ⟦name.len()⟧) + 11 ≤ (← ⟦out.len()⟧) ⌝ }
+    requires { at + length name.now + 11 ≤ length out.old }
     ensures { Placed out.old at (count_line name.now n) (length name.now + 11) result out.new }
 {
     let named = text::put_bytes(out, at, name);
@@ -27,7 +27,7 @@ fn put_line(out: &mut [u8], at: usize, name: &[u8], n: u32) -> usize
 
 // The line of a refusal, at the start.
 pub fn put_refused(out: &mut [u8], n: u8) -> usize
-    requires* { do ⌜ 19 ≤ (← ⟦out.len()⟧) ⌝ }
+    requires { 19 ≤ length out.old }
     ensures { Placed out.old 0 (refused_line n) 19 result out.new }
 {
     put_line(out, 0, b"refused ", n as u32)
@@ -35,7 +35,7 @@ pub fn put_refused(out: &mut [u8], n: u8) -> usize
 
 // The lines of the five kinds.
 fn put_counts(out: &mut [u8], at: usize, t: Tallies) -> usize
-    requires* { do ⌜ at + 72 ≤ (← ⟦out.len()⟧) ⌝ }
+    requires { at + 72 ≤ length out.old }
     ensures { Placed out.old at (count_lines t.n0 t.n11 t.n21 t.n22 t.n31) 72 result out.new }
 {
     let after0 = put_line(out, at, b"zero ", t.n0);
@@ -47,7 +47,7 @@ fn put_counts(out: &mut [u8], at: usize, t: Tallies) -> usize
 
 // A space and a number.
 fn put_spaced(out: &mut [u8], at: usize, n: u32) -> usize
-    requires* { do ⌜ at + 11 ≤ (← ⟦out.len()⟧) ⌝ }
+    requires { at + 11 ≤ length out.old }
     ensures { Placed out.old at (ascii " " ++ decimal n) 11 result out.new }
 {
     let next = text::put_byte(out, at, b' ');
@@ -57,7 +57,7 @@ fn put_spaced(out: &mut [u8], at: usize, n: u32) -> usize
 // The first `count` numbers of a record, each behind a space.
 fn put_numbers(out: &mut [u8], at: usize, w: &[u8], count: usize) -> usize
     requires count_in_bounds { 4 + 4 * count ≤ length w.now }
-    requires* count_bound { do ⌜ at + 11 * count ≤ (← ⟦out.len()⟧) ⌝ }
+    requires count_bound { at + 11 * count ≤ length out.old }
     ensures { Placed out.old at (spaced (numbers w.now 4 count)) (11 * count) result out.new }
 {
     let mut next = at;
@@ -75,7 +75,7 @@ fn put_numbers(out: &mut [u8], at: usize, w: &[u8], count: usize) -> usize
 fn put_sum(out: &mut [u8], at: usize, w: &[u8]) -> usize
     requires in_bounds { 4 ≤ length w.now }
     requires w_len_bound { length w.now ≤ room }
-    requires* at_bound { do ⌜ at + 114 ≤ (← ⟦out.len()⟧) ⌝ }
+    requires at_bound { at + 114 ≤ length out.old }
     ensures { Placed out.old at (sum_line w.now) 114 result out.new }
 {
     let count = (w.len() - 4) / 4;
@@ -89,7 +89,7 @@ fn put_sum(out: &mut [u8], at: usize, w: &[u8]) -> usize
 // All lines: of the kinds, of the share and of the sum, whose record is w.
 pub fn put_all(out: &mut [u8], t: Tallies, w: &[u8]) -> usize
     requires typical_le_total { t.typical ≤ t.total }
-    requires* longest_bound { do ⌜ longest ≤ (← ⟦out.len()⟧) ⌝ }
+    requires longest_bound { longest ≤ length out.old }
     requires in_bounds { 4 ≤ length w.now }
     requires w_len_bound { length w.now ≤ room }
     ensures { AllPut t w.now out.old result out.new }

@@ -1,7 +1,7 @@
 // The line of the share put into a lent buffer; crate report, specs/Report.antt, says what the line is. Each function that puts something writes from place `at` on and returns the place behind it.
 #![tactic(auto)]
 
-ghost use Rattle.std.specs.Prelude.{◌≡◌, ◌+◌, ◌≤◌, ◌<◌};
+ghost use Rattle.std.specs.Prelude.{◌≡◌, ◌+◌, ◌≤◌, ◌<◌, length};
 ghost use Rattle.text.specs.Put.{Placed};
 ghost use Rattle.report.specs.Report.{rounded, per_cent, share_line};
 
@@ -30,7 +30,7 @@ fn rounded(a: u64, b: u64) -> u64
 
 // Hundredths with two decimals.
 fn put_per_cent(out: &mut [u8], at: usize, h: u32) -> usize
-    requires* { do ⌜ at + 13 ≤ (← ⟦out.len()⟧) ⌝ }
+    requires { at + 13 ≤ length out.old }
     ensures { Placed out.old at (per_cent h) 13 result out.new }
 {
     let whole = text::put_number(out, at, h / 100);
@@ -41,7 +41,7 @@ fn put_per_cent(out: &mut [u8], at: usize, h: u32) -> usize
 // The line of the share.
 pub fn put_share(out: &mut [u8], at: usize, t: Tallies) -> usize
     requires typical_le_total { t.typical ≤ t.total }
-    requires* at_bound { do ⌜ at + 20 ≤ (← ⟦out.len()⟧) ⌝ }
+    requires at_bound { at + 20 ≤ length out.old }
     ensures { Placed out.old at (share_line t.typical t.total) 20 result out.new }
 {
     if t.total == 0 {

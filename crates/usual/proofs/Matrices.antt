@@ -84,24 +84,24 @@ module _ (p : ℕ) (C : Curve (Z p)) (m : Divisor) (w : ℕ → (Coordinate C).C
   abbrev Has : ℕ → Column → Type 0
   Has j r = (el p r.one ≡ f j 0) × ((el p r.x ≡ f j 1) × (el p r.y ≡ f j 2))
 
-  has-column : (j : ℕ) → j ≤ 2 → {r : Column} → Has j r → IsColumn C (residues p m) (w j) (residues_of p r)
-  has-column j l {r} (h0, (h1, h2)) = column_cong C (residues p m) (class_by (λ i. f j i ≡ residues_of p r i) (sym h0) (sym h1) (sym h2)) (column j l)
+  has-column : (j : ℕ) → j ≤ 2 → (r : Column) → Has j r → IsColumn C (residues p m) (w j) (residues_of p r)
+  has-column j l r (h0, (h1, h2)) = column_cong C (residues p m) (class_by (λ i. f j i ≡ residues_of p r i) (sym h0) (sym h1) (sym h2)) (column j l)
 
   pub columns : {a b c d e : Column} → Has 0 a → Has 1 b → Has 2 c → Shifted p a m d → Shifted p b m e → Columns p C m w f a b c d e
   columns {a} {b} {c} (a0, (a1, a2)) (b0, (b1, b2)) (c0, (c1, c2)) hd he = record {
     a_is = ia;
     b_is = ib;
-    c_is = has-column 2 (omega arith) (c0, (c1, c2));
+    c_is = has-column 2 (omega arith) _ (c0, (c1, c2));
     d_is = shifted_is p C hd ia;
     e_is = shifted_is p C he ib;
     pivot_is = λ t. determinant (ops (Z p)) (entries (a0 t) (a1 t) (a2 t)) (entries (b0 t) (b1 t) (b2 t)) (entries (c0 t) (c1 t) (c2 t));
   }
     where
       ia : IsColumn C (residues p m) (w 0) (residues_of p a)
-      ia = has-column 0 (omega arith) (a0, (a1, a2))
+      ia = has-column 0 (omega arith) _ (a0, (a1, a2))
 
       ib : IsColumn C (residues p m) (w 1) (residues_of p b)
-      ib = has-column 1 (omega arith) (b0, (b1, b2))
+      ib = has-column 1 (omega arith) _ (b0, (b1, b2))
 
 pub sum_columns : (p : ℕ) (C : Curve (Z p)) (n m : Divisor) {r : List (List ℕ)} (S : SumMatrix p n m r)
     → Columns p C m (member C k31 (residues p n)) (difference (ops (Z p)) (residues p n) (residues p m)) S.a S.b S.c S.d S.e

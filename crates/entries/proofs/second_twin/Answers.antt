@@ -1,0 +1,16 @@
+-- `entries::second_twin` meets its contract, equation by equation.
+use mathlib.Core.Path.{◌∙◌}
+use Rattle.field.specs.Residue.{Z, el}
+use Rattle.barrett.specs.Contract.{more₁}
+use Rattle.chains.specs.Contract.{more₂, more₂_less₁}
+use Rattle.entries.proofs.second_twin.Goals as goal
+
+pub returns : goal.returns
+returns c =
+    let a = c.args in
+    record {
+      below = record { one = c.more2_less1-one.ensures.below; x = c.more1-x.ensures.below; y = c.more2-y.ensures.below };
+      one_is = c.more2_less1-one.ensures.is ∙ (λ i. more₂_less₁ (Z a.p) (c.neg-t0.ensures.is i) (el a.p a.n.n2) (c.add-t1.ensures.is i) (el a.p a.o.n11) (el a.p a.n.n3) (el a.p a.n.n4) (el a.p a.w.t));
+      x_is = c.more1-x.ensures.is ∙ (λ i. more₁ (Z a.p) (c.neg-t2.ensures.is i) (el a.p a.n.n2) (c.add-t3.ensures.is i));
+      y_is = c.more2-y.ensures.is ∙ (λ i. more₂ (Z a.p) ((c.sub-t5.ensures.is ∙ (λ i. (Z a.p).add (el a.p a.n.n4) ((Z a.p).neg (c.add-t4.ensures.is i)))) i) (el a.p a.n.n2) (el a.p a.w.l) (el a.p a.o.n11) (el a.p a.n.n5));
+    }

@@ -1,0 +1,15 @@
+-- `entries::third_twin` meets its contract, equation by equation.
+use mathlib.Core.Path.{◌∙◌}
+use Rattle.field.specs.Residue.{Z, el}
+use Rattle.chains.specs.Contract.{more₂_less₁}
+use Rattle.entries.proofs.third_twin.Goals as goal
+
+pub returns : goal.returns
+returns c =
+    let a = c.args in
+    record {
+      below = record { one = c.more3_less1-one.ensures.below; x = c.more2_less1-x.ensures.below; y = c.more2_less1-y.ensures.below };
+      one_is = c.more3_less1-one.ensures.is;
+      x_is = c.more2_less1-x.ensures.is ∙ (λ i. more₂_less₁ (Z a.p) ((c.neg-t1.ensures.is ∙ (λ i. (Z a.p).neg (c.add-t0.ensures.is i))) i) (el a.p a.w.k) (el a.p a.n.n1) (el a.p a.w.l) (el a.p a.n.n4) (el a.p a.w.s) (el a.p a.w.r1));
+      y_is = c.more2_less1-y.ensures.is;
+    }

@@ -1,0 +1,31 @@
+-- `multiplicity::inside` meets its contract. The loop's invariant is Within of proofs/Rests, its measure 3 − j.
+use Prim.Native.Nat.{◌-◌}
+use native.Mathlib.Omega.{arith}
+use Rattle.multiplicity.proofs.Rests.{within-start, within-asked, within_more, within_stop, within_end}
+use mathlib.Core.Path.{ap}
+use mathlib.Core.Bool.{not}
+use Rattle.multiplicity.proofs.inside.Goals as goal
+
+pub loop-j-init : goal.loop-j-init
+loop-j-init c = within-start c.requires
+
+pub overflow_add-top : goal.overflow_add-top
+overflow_add-top c = omega (arith, (c.requires.full.present c.loop-j.j (omega arith)).inside)
+
+pub member-requires : goal.member-requires
+member-requires c = within-asked c.loop-j.invariant (omega arith)
+
+pub returns-then-not-member : goal.returns-then-not-member
+returns-then-not-member c = within_stop c.loop-j.invariant (omega arith) c.member.ensures (ap not c.if-not-member.true)
+
+pub overflow_add-j : goal.overflow_add-j
+overflow_add-j c = omega arith
+
+pub loop-j-smaller : goal.loop-j-smaller
+loop-j-smaller c = omega arith
+
+pub loop-j-preserved : goal.loop-j-preserved
+loop-j-preserved c = within_more c.loop-j.invariant (omega arith) c.member.ensures (ap not c.if-not-member.false)
+
+pub returns : goal.returns
+returns c = within_end c.loop-j.invariant (omega arith)

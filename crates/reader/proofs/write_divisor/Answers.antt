@@ -1,0 +1,23 @@
+-- writing::write_record writes the record of the kind's count.
+use native.Mathlib.Omega.{arith}
+use mathlib.Core.Path.{ap}
+use Prim.Native.Nat.{ℕ, ◌+◌, ◌*◌}
+use Rattle.divisor.proofs.Codes.{code-small}
+use Rattle.reader.proofs.Answer.{written-bytes}
+use Rattle.reader.proofs.write_divisor.Goals as goal
+
+pub write_record-requires : goal.write_record-requires
+write_record-requires c =
+    let p = c.requires in
+    let k = c.count_of-count.ensures in
+    record { count_bound = omega (arith, k.small); kind_bound = omega (arith, code-small p.kind, p.is); count_in_bounds = k.small; count_in_bounds_2 = omega (arith, k.is p.kind p.is, p.room) }
+
+pub returns : goal.returns
+returns c = λ κ e.
+    let a = c.args in
+    let w = c.write_record.ensures in
+    let n = c.count_of-count.ensures.is κ e in
+    record {
+      long = cc (w.size, ap (λ (m : ℕ). 4 + 4 * m) n);
+      bytes = written-bytes a.r κ a.r.kind c.count_of-count.result a.out.now c.write_record.new.out e n w.written;
+    }
