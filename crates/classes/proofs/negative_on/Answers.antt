@@ -1,0 +1,27 @@
+-- The divisor is read, and negated.
+use Rattle.reader.proofs.Ground.{grounded_on}
+use Rattle.classes.proofs.Values.{negative-made, one-asked}
+use Rattle.classes.proofs.Read.{read_given, read_refused, found-one}
+use Rattle.classes.proofs.negative_on.Goals as goal
+
+pub read_divisor-read-requires : goal.read_divisor-read-requires
+read_divisor-read-requires c = grounded_on c.requires.1
+
+pub negative-r-requires : goal.negative-r-requires
+negative-r-requires c =
+    let cur = c.requires in
+    let read = c.read_divisor-read in
+    let v = read_given cur.1 c.args.a.now read.result read.ensures _ c.in-Divisor.is in
+    one-asked cur.1 v
+
+pub returns-in-Divisor : goal.returns-in-Divisor
+returns-in-Divisor c k o =
+    let a = c.args.a.now in
+    let read = c.read_divisor-read in
+    let v = read_given o a read.result read.ensures _ c.in-Divisor.is in
+    found-one k a v (negative-made o v c.negative-r.ensures)
+
+pub returns-in-Refused : goal.returns-in-Refused
+returns-in-Refused c k o =
+    let read = c.read_divisor-read in
+    read_refused o c.args.a.now read.result read.ensures _ c.in-Refused.is

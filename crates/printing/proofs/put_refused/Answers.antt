@@ -1,0 +1,7 @@
+-- `printing::put_refused` meets its contract: one line.
+use Rattle.report.specs.Report.{refused_line}
+use Rattle.printing.proofs.put_refused.Goals as goal
+
+pub returns : goal.returns
+unfolding refused_line
+returns c = c.put_line.ensures
