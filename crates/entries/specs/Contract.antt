@@ -8,7 +8,6 @@
 --   TwinAsked, FirstTwin, SecondTwin, ThirdTwin    the columns of the three polynomials of a double
 --   DoubleMatrix           double_matrix: the matrix of a double
 use Rattle.std.specs.Prelude.{◌≡◌, List, ℕ, ◌<◌, get_or}
-use Rattle.algebra.specs.Ring.{CommRing}
 use Rattle.field.specs.Residue.{Z, el}
 use Rattle.barrett.specs.Contract.{more₁, less₂}
 use Rattle.chains.specs.Contract.{more₂, more₁_less₁, more₂_less₁, more₃_less₁}

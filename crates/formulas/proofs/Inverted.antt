@@ -1,10 +1,10 @@
 -- The inverse of z and z²/y from the inverse of z·y.
 --   product_beside         z·y beside y
 --   inverted               what the function computes
-use mathlib.Core.Path.{◌≡◌, sym, ◌∙◌, ap}
+use mathlib.Core.Path.{◌≡◌, ◌∙◌, ap}
 use mathlib.Core.List.{[], ◌∷◌}
 use Prim.Native.Nat.{ℕ}
-use Rattle.algebra.specs.Ring.{CommRing, Field}
+use Rattle.algebra.specs.Ring.{CommRing}
 use Rattle.algebra.proofs.Norm.{unit}
 use Rattle.algebra.proofs.Solve.{solve, solve_from, given, ◌⊞◌, ◌⊠◌, ⊟◌}
 use Rattle.prime.specs.Prime.{Prime}

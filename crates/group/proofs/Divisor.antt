@@ -10,7 +10,6 @@ use mathlib.Core.Path.{◌≡◌, sym, ◌∙◌, ap, subst}
 use mathlib.Core.List.{List}
 use Prim.Native.Nat.{ℕ, ◌<◌}
 use native.Mathlib.Omega.{arith}
-use Rattle.algebra.specs.Ring.{CommRing}
 use Rattle.prime_field.specs.Field.{F}
 use Rattle.field.proofs.Invert.{prime-large}
 use Rattle.ideal.specs.Ideal.{IsIdeal, SameIdeal}

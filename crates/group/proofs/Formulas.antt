@@ -5,7 +5,6 @@
 --   first-other, second-other      they say nothing of a divisor of another kind
 use mathlib.Core.Path.{◌≡◌, sym, subst, subst₂}
 use mathlib.Core.Bool.{true, false, false≢true}
-use Rattle.algebra.specs.Ring.{CommRing}
 use Rattle.ideal.specs.Ideal.{Product}
 use Rattle.ideal.specs.Reduced.{IsReduced}
 use Rattle.divisor.specs.Kind.{k31, IdealOf}

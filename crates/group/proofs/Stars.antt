@@ -8,7 +8,6 @@
 use mathlib.Core.List.{List}
 use Prim.Native.Nat.{ℕ, ◌≤◌}
 use native.Mathlib.Omega.{arith}
-use Rattle.algebra.specs.Ring.{CommRing}
 use Rattle.ideal.specs.Ideal.{SameIdeal, Product}
 use Rattle.ideal.specs.Reduced.{IsStar}
 use Rattle.ideal.proofs.Same.{same_refl, same_sym, same_trans, ideal-same}

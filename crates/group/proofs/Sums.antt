@@ -5,7 +5,6 @@
 --   sum_equivalent         the product is equivalent to the ideal of the sum
 use mathlib.Core.Path.{◌≡◌}
 use Prim.Native.Nat.{ℕ}
-use Rattle.algebra.specs.Ring.{CommRing}
 use Rattle.ideal.specs.Ideal.{SameIdeal, Product, Equivalent}
 use Rattle.ideal.proofs.Same.{same_refl, same_sym, same_trans}
 use Rattle.ideal.proofs.Class.{equivalent_same}

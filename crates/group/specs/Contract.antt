@@ -7,7 +7,6 @@
 --   ProductStarOf                  product_star: it is J*, for the product J
 --   ZeroClass r                    zero_class: kind 0, and no number
 use Rattle.std.specs.Prelude.{◌≡◌, ℕ, replicate}
-use Rattle.algebra.specs.Ring.{CommRing}
 use Rattle.ideal.specs.Ideal.{Product}
 use Rattle.ideal.specs.Reduced.{IsStar, IsReduced}
 use Rattle.divisor.specs.Kind.{Kind, IdealOf}

@@ -10,7 +10,6 @@ use native.Mathlib.Omega.{arith}
 use native.Mathlib.Decide.{ℕ_discrete}
 use lib.ListN.{get_or-eq_default}
 use borrow.Author.Tests.{not-true, not-false}
-use Rattle.algebra.specs.Ring.{CommRing}
 use Rattle.algebra.proofs.Laws as L
 use Rattle.ideal.proofs.Degree.{monic-pole}
 use Rattle.ideal.proofs.Leads.{space_neg}

@@ -8,7 +8,6 @@
 --   QuotientsAsked s p d r d holds the denominators and r the products, the last of them not 0; p is a prime
 --   Quotients s p cs       cs are the nine quotients modulo p
 use Rattle.std.specs.Prelude.{◌≡◌, List, ℕ, zero, suc, ◌<◌, ◌≤◌, length, get_or}
-use Rattle.algebra.specs.Ring.{CommRing}
 use Rattle.prime.specs.Prime.{Prime}
 use Rattle.field.specs.Residue.{Z, el}
 use Rattle.field.specs.Contract.{Is}

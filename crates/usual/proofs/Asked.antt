@@ -18,7 +18,7 @@ use Rattle.entries.specs.declared.Lower.{Lower}
 use Rattle.entries.specs.Contract.{lower_of, NumbersBelow, LowerBelow, SumMatrix, DoubleMatrix}
 use Rattle.usual.specs.declared.Tried.{Tried}
 use Rattle.usual.specs.Contract.{MatrixOf, SolvedOf}
-use Rattle.usual.specs.Trial.{TriedAsked, TriedOf}
+use Rattle.usual.specs.Trial.{TriedOf}
 use Rattle.usual.proofs.Served as served
 
 pub lower_below : {p : ℕ} {y3 : List ℕ} {o : Lower} → p < 2147483648 → Vec p y3 → o ≡ lower_of y3 → LowerBelow p o

@@ -9,9 +9,9 @@ use mathlib.Core.Path.{◌≡◌}
 use mathlib.Core.List.{[], ◌∷◌}
 use Prim.Native.Nat.{ℕ, zero, suc}
 use Rattle.algebra.specs.Ring.{CommRing, Ops, ops}
-use Rattle.algebra.proofs.Norm.{E, E-ops, unit}
+use Rattle.algebra.proofs.Norm.{E-ops, unit}
 use Rattle.algebra.proofs.Solve.{solve, solve_from, given, ◌⊞◌, ◌⊠◌, ⊟◌}
-use Rattle.type61_numbers.proofs.Equations.{F2-of, r0-of, G1-of, F2G2-of, F0-of, G0-of, F2H2-of, F2H1-of, F2H0-of}
+use Rattle.type61_numbers.proofs.Equations.{F2-of, r0-of, G1-of, F2G2-of, F0-of, G0-of, F2H2-of}
 
 module _ {A : Type 0} (O : Ops A) where
   abbrev pub five : A → A → A → A → A → ℕ → A

@@ -3,9 +3,9 @@
 --   shifted_is             the column of x·w from that of w
 --   Columns, columns       five columns: those of w 0, w 1, w 2, x·w 0, x·w 1, and their first three by formulas
 --   sum_columns, double_columns    those of a sum and of a double
-use mathlib.Core.Path.{◌≡◌, refl, sym, ◌∙◌, ap}
+use mathlib.Core.Path.{◌≡◌, sym, ◌∙◌, ap}
 use mathlib.Core.List.{List}
-use Prim.Native.Nat.{ℕ, zero, suc, ◌+◌, ◌*◌, ◌≤◌}
+use Prim.Native.Nat.{ℕ, zero, suc, ◌≤◌}
 use native.Mathlib.Omega.{arith}
 use lib.ListN.{get_or}
 use Rattle.algebra.specs.Ring.{CommRing, ops}
@@ -35,7 +35,7 @@ use Rattle.matrix.specs.Matrix.{residues_of}
 use Rattle.entries.specs.declared.Lower.{Lower}
 use Rattle.entries.specs.Contract.{lower_of, Shifted, SumMatrix, PartsOf, DoubleMatrix}
 use Rattle.usual.specs.Contract.{IsLower}
-use Rattle.usual.proofs.Twins.{a-part, r1-part, r2-part, s-part, t-part, s0-part, r0-part, k-part, l-part, twin, twin_equals}
+use Rattle.usual.proofs.Twins.{a-part, r1-part, r2-part, t-part, s0-part, r0-part, k-part, l-part, twin, twin_equals}
 
 pub lower-is : {p : ℕ} {C : Curve (Z p)} {y3 : List ℕ} → Cube p C y3 → IsLower p C (lower_of y3)
 lower-is {p} {C} {y3} h = record {

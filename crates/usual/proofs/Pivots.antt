@@ -11,7 +11,7 @@ use mathlib.Core.List.{List, [], ◌∷◌}
 use Prim.Native.Nat.{ℕ, zero, suc, ◌≤◌, ◌<◌}
 use native.Mathlib.Omega.{arith}
 use Rattle.algebra.specs.Ring.{CommRing, Field, Ops, ops}
-use Rattle.algebra.proofs.Norm.{E, E-ops, unit}
+use Rattle.algebra.proofs.Norm.{E-ops, unit}
 use Rattle.algebra.proofs.Laws.{neg-neg, mul-zero, zero-mul, sub-zero→eq}
 use Rattle.algebra.proofs.Solve.{solve, solve_from, given, ◌⊞◌, ◌⊠◌, ⊟◌}
 use Rattle.prime.specs.Prime.{Prime}
@@ -37,8 +37,7 @@ use Rattle.entries.specs.declared.Lower.{Lower}
 use Rattle.formulas.specs.Contract.{FactorsOf, InversesOf}
 use Rattle.formulas.specs.declared.Factors.{Factors}
 use Rattle.formulas.specs.declared.Inverses.{Inverses}
-use Rattle.usual.specs.declared.Tried.{Tried}
-use Rattle.usual.specs.Contract.{IsLower, us_of, vs_of, CompleteOf, Pivoted, Solved, Unsolved, SolvedOf}
+use Rattle.usual.specs.Contract.{IsLower, us_of, vs_of, CompleteOf, Pivoted, SolvedOf}
 use Rattle.usual.proofs.Equate.{five, six}
 
 pub record Front (p : ℕ) (m c : List (List ℕ)) (z : ℕ) (d e : Column) : Type 0 where

@@ -2,10 +2,9 @@
 --   tried-from             … for an ideal that is of type 61 if the determinant is not zero
 --   tried-sum, tried-double        … for the sum of two divisors, and for a double
 use mathlib.Core.Path.{◌≡◌, sym, ◌∙◌, ap, subst}
-use mathlib.Core.Bool.{true, false}
-use mathlib.Core.Logic.{◌⊎◌, inl, inr}
+use mathlib.Core.Logic.{inl, inr}
 use mathlib.Core.List.{List}
-use Prim.Native.Nat.{ℕ, ◌≤◌}
+use Prim.Native.Nat.{ℕ}
 use Rattle.algebra.specs.Ring.{CommRing, Field, ops}
 use Rattle.algebra.proofs.Laws.{one-mul}
 use Rattle.field.specs.Residue.{Z, el}
@@ -31,8 +30,7 @@ use Rattle.basis.specs.declared.Divisor.{Divisor}
 use Rattle.basis.specs.Divisor.{numbers_of, residues}
 use Rattle.matrix.specs.declared.Column.{Column}
 use Rattle.matrix.specs.Matrix.{rows_of, residues_of}
-use Rattle.matrix.specs.Contract.{Combines, column_residues}
-use Rattle.entries.specs.declared.Lower.{Lower}
+use Rattle.matrix.specs.Contract.{Combines}
 use Rattle.entries.specs.Contract.{lower_of, SumMatrix, DoubleMatrix}
 use Rattle.usual.specs.declared.Tried.{Tried}
 use Rattle.usual.specs.Contract.{us_of, vs_of, Pivoted, Solved, Unsolved, SolvedOf}

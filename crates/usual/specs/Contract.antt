@@ -9,7 +9,7 @@
 --   Unsolved p o n m       the determinant is zero, or f2 is
 --   SolvedOf               solved: the one where it serves, and the other where it does not
 use Rattle.std.specs.Prelude.{◌≡◌, true, false, ◌⊎◌, List, ℕ, ◌<◌}
-use Rattle.algebra.specs.Ring.{CommRing, ops}
+use Rattle.algebra.specs.Ring.{ops}
 use Rattle.prime.specs.Prime.{Prime}
 use Rattle.field.specs.Residue.{Z, el}
 use Rattle.curve.specs.Curve.{Curve}

@@ -5,7 +5,6 @@
 --   TriedIs A r            tried: where it serves there are pivots, and the sum is of kind 31 with f2 not zero; where not and there are pivots, the f2 of the sum is zero
 --   TriedOf g a b r
 use Rattle.std.specs.Prelude.{◌≡◌, true, false, ℕ}
-use Rattle.algebra.specs.Ring.{CommRing}
 use Rattle.field.specs.Residue.{Z}
 use Rattle.ideal.specs.Ideal.{Product}
 use Rattle.ideal.specs.Reduced.{IsReduced}

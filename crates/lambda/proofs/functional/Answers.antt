@@ -1,5 +1,4 @@
 -- `lambda::functional` meets its contract. The loop's invariant is Partial of proofs/Partial, its measure 14 − s.
-use Prim.Native.Nat.{◌-◌}
 use native.Mathlib.Omega.{arith}
 use Rattle.lambda.proofs.Partial.{partial_start, partial_asked, partial_more, partial_done}
 use Rattle.lambda.proofs.functional.Goals as goal

@@ -1,5 +1,4 @@
 -- `multiplicity::inside` meets its contract. The loop's invariant is Within of proofs/Rests, its measure 3 − j.
-use Prim.Native.Nat.{◌-◌}
 use native.Mathlib.Omega.{arith}
 use Rattle.multiplicity.proofs.Rests.{within-start, within-asked, within_more, within_stop, within_end}
 use mathlib.Core.Path.{ap}

@@ -1,5 +1,4 @@
 -- In the loop the products up to that before place i are in place; its measure is 9 − i.
-use Prim.Native.Nat.{◌-◌}
 use native.Mathlib.Omega.{arith}
 use Rattle.quotients.proofs.Loops.{filled-start, filled_more, filled_done}
 use Rattle.quotients.proofs.products.Goals as goal

@@ -1,5 +1,5 @@
 -- In the loop the quotients from the coefficient i on are in place, and unit is the inverse of the product before it; its measure is i.
-use Prim.Native.Nat.{◌-◌, ◌≤◌}
+use Prim.Native.Nat.{◌≤◌}
 use Rattle.quotients.proofs.Loops.{Divided}
 use Rattle.quotients.proofs.quotients.Given as goal
 

@@ -1,5 +1,4 @@
 -- In the loop the denominators before the coefficient i are in place; its measure is 9 − i.
-use Prim.Native.Nat.{◌-◌}
 use native.Mathlib.Omega.{arith}
 use Rattle.quotients.proofs.Loops.{read_start, read_more, read_done}
 use Rattle.quotients.proofs.residues.Goals as goal
