@@ -1,4 +1,4 @@
--- `counting::put_pass` meets its contract: the record of the sum is written and all lines are put, or the line of the refusal.
+-- `counting::put_pass` meets its contract: the record of the sum is written, and all lines are put, or the line of the refusal.
 use mathlib.Core.Path.{subst}
 use native.Mathlib.Omega.{arith}
 use Rattle.reply.proofs.Write.{write_asked}
