@@ -1,4 +1,4 @@
--- The curve, the limit of p, and the points on the curve's ground.
+-- The curve, then the limit of p, then the points on the curve's ground.
 use mathlib.Core.Path.{◌∙◌}
 use native.Mathlib.Omega.{arith}
 use Rattle.reader.proofs.Ground.{curve-passes, curve-asked, curve_on, curve-cause}

@@ -9,7 +9,7 @@ returns c =
     let a = c.args in
     let k = c.sum in
     sum-slots a.curve.now a.s.now a.i a.j c.read_u16-n.result
-    c.read_u16-m.result a.out.now k.result _ k.new.1.1.1.0
+    c.read_u16-m.result a.out.now k.result _ k.new.out
     c.read_u16-n.ensures.is
     c.read_u16-m.ensures.is
     (to_z-of_z {w = w32} {z = k.result} (record { sfits = k.type_inv }))
