@@ -1,5 +1,5 @@
-// The calls of the host, for C: each is that of crate c34 and has its contract. Each takes slices and numbers, checks them in the documents' order and returns a signed number:
-// minus the number of the refusal, or what the call is for.
+// The calls of the host, for C: each is that of crate c34 and has its contract. Each takes slices and numbers, checks them in
+// the documents' order and returns a signed number: minus the number of the refusal, or what the call is for.
 #![tactic(auto)]
 
 ghost use Rattle.calls.specs.Call.{CheckCurve, CheckDivisor, Sum, Double, Negative, Multiple, ListSum, Compare, Count, ReduceCurve, CompareWords, CommonPart, CommonMultiple, QuickServes};
