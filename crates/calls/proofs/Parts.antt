@@ -1,8 +1,8 @@
 -- Request 2026-04: the common part and the common multiple of two accepted records a and b on an accepted curve, I and J their ideals.
 --   part-one, common_multiple-one      there is one common part, and one common multiple
 --   parts_invertible       I + J is invertible
---   parts_product          (I ∩ J)·(I + J) = I-as-J
---   parts_class            the product of the ideals of the common multiple and the common part is equivalent to I-as-J
+--   parts_product          (I ∩ J)·(I + J) = I·J
+--   parts_class            the product of the ideals of the common multiple and the common part is equivalent to I·J
 --   parts_sum, sum_parts   w is the sum of a and b exactly if it is the sum of the common multiple and the common part
 --   inside-part, inside-multiple       if I lies inside J, the common part is b, and the common multiple a
 use mathlib.Core.Path.{◌≡◌, sym, subst}
@@ -45,7 +45,7 @@ module _ (c : List ℕ) (A : AcceptedCurve c) (a b : List ℕ) (ha : Accepted c 
       go : (d : List ℕ) × IsCommonPart c a b d → InvertibleIdeal (Ring c) (IdealSum (Ring c) (Ideal c a) (Ideal c b))
       go (d, h) = invertible-same P (same_sym (Ring c) h.same) (accepted-invertible c d A h.accepted.1)
 
-  -- Request 2026-04: on an accepted curve (I ∩ J)·(I + J) = I-as-J for the ideals I and J of two accepted records.
+  -- Request 2026-04: on an accepted curve (I ∩ J)·(I + J) = I·J for the ideals I and J of two accepted records.
   pub parts_product : SameIdeal (Ring c)
       (Product (Ring c) (Intersection (Ring c) (Ideal c a) (Ideal c b)) (IdealSum (Ring c) (Ideal c a) (Ideal c b)))
       (Product (Ring c) (Ideal c a) (Ideal c b))

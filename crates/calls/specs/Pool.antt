@@ -10,7 +10,7 @@
 --   pool_of, groups_of   … after a list of calls
 --   IsCall c p k         the call is a sum call on the curve c with the records at two different places of the pool p
 --   Made c p ks          the calls ks are made one after the other, each on the pool that the one before it left
---   alone n              the groups at the start: the group of the record at place i is i alone (alone-from: from a place on)
+--   alone n              the groups at the start: the group of the record at place i is i alone (alone_from: from a place on)
 --   served ks            how many calls have a buffer of 40 bytes or more
 --   CallAnswer k         what a call returns and leaves, by its buffer's length; CallAnswers ks: each of the calls
 --   ListAnswer           what the single list call over the given records writes

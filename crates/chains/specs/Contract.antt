@@ -5,7 +5,7 @@
 --   more₁_less₂            x + a·b − c·d − e·f
 --   more₃_less₁            x + a·b + c·d + e·f − g·h
 --   more₂_less₂            x + a·b + c·d − e·f − g·h
---   Below2 … Below4      a number and the factors of so many products are below p, and p is below 2^31
+--   Below2 … Below4        a number and the factors of so many products are below p, and p is below 2^31
 use Rattle.std.specs.Prelude.{ℕ, ◌<◌}
 use Rattle.algebra.specs.Ring.{CommRing}
 use Rattle.barrett.specs.Contract.{more₁, less₁}

@@ -1,8 +1,8 @@
 -- The product of the ideals of two bases of kind 31, and the square of one, are of type 61 if their columns are independent.
--- For the product I·I' the columns are those of f, g and h modulo I', for the square I-as-I those of q0, q1 and q2 modulo I: f·q j = q0·(f, g, h) j, so the
--- mixtures of f, g, h in I-as-I and those of q0, q1, q2 in A-as-I, A the ideal of q0, q1, q2, are the same but for the factors q0 and f.
+-- For the product I·I' the columns are those of f, g and h modulo I', for the square I·I those of q0, q1 and q2 modulo I: f·q j = q0·(f, g, h) j, so the
+-- mixtures of f, g, h in I·I and those of q0, q1, q2 in A·I, A the ideal of q0, q1, q2, are the same but for the factors q0 and f.
 --   comaximal              what lies in A and in I' lies in A·I', if the columns modulo I' of the three elements that generate A are independent
---   sum_transfer, double_transfer  I·I' and I-as-I are told by f, g, h and by q0, q1, q2
+--   sum_transfer, double_transfer  I·I' and I·I are told by f, g, h and by q0, q1, q2
 --   sum_type61, double_type61      they are of type 61, with these first two polynomials
 use mathlib.Core.Path.{◌≡◌, refl, sym, ◌∙◌, ap, subst}
 use mathlib.Core.List.{List, [], ◌∷◌}
@@ -127,7 +127,7 @@ module _ (K : Field) (C : Curve K.ring) (nonzero : ¬ (C.a0 ≡ K.ring.zero)) wh
         → Type61 P (Product R (IdealOf C k31 n) (IdealOf C k31 m)) (cubic C (less (ops k) n 0 s)) (quartic C (less (ops k) n 3 t))
     sum_type61 = transfer_type61 K C nonzero n m basis basis' sum_transfer i0 i1 i2 full
 
-  -- X·e = e'·Y gives (X-as-W)·e = e'·Z, if Z holds Y-as-W
+  -- X·e = e'·Y gives (X·W)·e = e'·Z, if Z holds Y·W
   carried : (e e' : El) {X Y Z W : El → Type 0} → IsIdeal R Z → ((u : El) → X u → Scaled R e' Y (u ⊗ e)) → ((u w : El) → Y u → W w → Z (u ⊗ w)) → (z : El)
       → Product R X W z → Scaled R e' Z (z ⊗ e)
   carried e e' {X} {Y} {Z} {W} ideal across within z = product_in R (taken_ideal R e (scaled_ideal R e' ideal)) (λ u w mu mw. go u w (across u mu) mw)

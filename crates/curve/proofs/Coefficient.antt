@@ -1,5 +1,5 @@
 -- The coefficients of sums and products in the coordinate ring.
---   at-zero at-add at-neg                of the ring's operations
+--   at_zero at-add at-neg                of the ring's operations
 --   at-constant-x at-constant-y at-one_0 at-one-x at-one-y      of constants and of 1
 --   at_ext             elements with the same coefficients are equal
 --   at-constant-mul    of a constant times g

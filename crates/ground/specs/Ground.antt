@@ -1,5 +1,5 @@
 -- The ground of a curve by value: what holds of it, and what its maker requires and ensures.
---   UnitOf p k C          k is the inverse of −a0
+--   UnitOf p k C           k is the inverse of −a0
 --   Grounded g             g is the ground of some curve with a0 ≢ 0 over the field of p elements, p below 2^31, and has the divider of p
 --   AtGround g X           X holds of p and of every curve of which g is the ground
 --   GroundAsked e          the coefficients are below p, and a0 is 1

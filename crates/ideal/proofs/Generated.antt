@@ -6,7 +6,7 @@
 --   generated_first, generated_rest    … and what the rest of gs generates
 --   generated_in           an ideal that holds each element of gs holds it
 --   products gs hs         the products of one element from each list
---   products-each          they are in I-as-J if gs is in I and hs in J
+--   products-each          they are in I·J if gs is in I and hs in J
 --   products_source        what holds of each of them holds of each g·h
 --   generated_product      they generate the product of the ideals of gs and hs
 use mathlib.Core.Path.{◌≡◌, refl, sym, ◌∙◌, ap, subst}

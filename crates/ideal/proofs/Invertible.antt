@@ -4,15 +4,15 @@
 --   multiple-ideal         the multiples of e are an ideal
 --   multiple-product       (a)·(b) = (a·b)
 --   invertible-member      h is in Y if (a·b)·h is in e·Y for all a in I and b in I'
---   product_scaled         I-as-Y times an element of I' is in e·Y
+--   product_scaled         I·Y times an element of I' is in e·Y
 --   colon_invertible       I is invertible if f is in I·(f : I), f not zero
 --   invertible_colon       I·(u : I) = (u) for every u in I
 --   invertible-product     the product of two invertible ideals is invertible
 --   invertible_equivalent  an ideal that is equivalent to an invertible one is invertible
 --   invertible-same        … and so is one with the same elements
---   invertible_cancel      I-as-X ⊆ I-as-Y gives X ⊆ Y
---   invertible-whole       I ⊆ I-as-X gives X = R
---   invertible_parts       (I ∩ J)·(I + J) = I-as-J if I + J is invertible
+--   invertible_cancel      I·X ⊆ I·Y gives X ⊆ Y
+--   invertible-whole       I ⊆ I·X gives X = R
+--   invertible_parts       (I ∩ J)·(I + J) = I·J if I + J is invertible
 use mathlib.Core.Path.{◌≡◌, refl, sym, ◌∙◌, ap, ap₂, subst}
 use Rattle.algebra.specs.Ring.{CommRing}
 use Rattle.algebra.proofs.Laws as laws
@@ -73,7 +73,7 @@ module _ (R : CommRing) where
       back (q, p) =
           subst (Product R (Multiple R e) (Multiple R e')) (sym (p ∙ R.mul_assoc e e' q)) (product_of R (one, sym (R.mul_one e)) (q, refl))
 
-  -- (I-as-J)·(I'·J') = (I·I')·(J·J')
+  -- (I·J)·(I'·J') = (I·I')·(J·J')
   product_cross : {I J I' J' : Car → Type 0} → IsIdeal R I → IsIdeal R J → IsIdeal R I' → IsIdeal R J'
       → SameIdeal R (Product R (Product R I J) (Product R I' J')) (Product R (Product R I I') (Product R J J'))
   product_cross {I} {J} {I'} {J'} i j i' j' =
@@ -102,7 +102,7 @@ module _ {R : CommRing} (P : Poles R) where
         go : Scaled R v.e Y (v.e ⊗ h) → Y h
         go (z, mz, q) = subst Y (sym (cancel P v.nonzero q)) mz
 
-    -- I-as-Y times an element of I' is in e·Y.
+    -- I·Y times an element of I' is in e·Y.
     pub product_scaled : {Y : Car → Type 0} {b h : Car} → IsIdeal R Y → v.I' b → Product R I Y h → Scaled R v.e Y (h ⊗ b)
     product_scaled {Y} {b} y mb = product_in R (taken_ideal R b (scaled_ideal R v.e y)) (λ a z ia mz. at z mz (inverse-multiple ia mb))
       where

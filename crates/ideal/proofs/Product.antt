@@ -1,10 +1,10 @@
 -- Products of ideals, and of lists of ideals.
---   product_of             a·b is in I-as-J for a in I and b in J
---   product_in             an ideal that holds each a·b holds I-as-J
---   product-ideal          I-as-J is an ideal if I is
---   product-sum            I-as-J is closed under sums
+--   product_of             a·b is in I·J for a in I and b in J
+--   product_in             an ideal that holds each a·b holds I·J
+--   product-ideal          I·J is an ideal if I is
+--   product-sum            I·J is closed under sums
 --   product-times          … and under multiples by r if I is
---   product-map, product-same      I-as-J grows with I and J
+--   product-map, product-same      I·J grows with I and J
 --   product_comm, product_assoc, product-unit
 --   taken_ideal            the elements that k takes into an ideal are an ideal
 --   whole-ideal            the whole ring is an ideal
@@ -12,8 +12,8 @@
 --   productof_append       the product of two lists, one after the other
 --   productof_swap         two neighbours may change places
 --   productof_one          the product of one ideal
---   product_equivalent     I ~ I' and J ~ J' give I-as-J ~ I'·J'; product_equivalent_left and -right: for one factor
---   productof_join         if A ~ ∏ xs and B ~ ∏ ys, then A-as-B ~ ∏ (xs ++ ys)
+--   product_equivalent     I ~ I' and J ~ J' give I·J ~ I'·J'; product_equivalent_left and product_equivalent_right: for one factor
+--   productof_join         if A ~ ∏ xs and B ~ ∏ ys, then A·B ~ ∏ (xs ++ ys)
 use mathlib.Core.Path.{◌≡◌, refl, sym, ◌∙◌, ap, subst}
 use mathlib.Core.Logic.Iff
 use mathlib.Core.List.{List, [], ◌∷◌, ◌++◌}

@@ -9,7 +9,7 @@
 --   inx_in, span_in        a space that is closed under x and holds each b holds the span
 --   span_within, span_same the span of bs is in that of cs if each b is; two lists with the same span
 --   x-lead                 a set that is closed under x has the leads d + 3·i if it has d
---   InXY r                 r is a polynomial in x and y; inxy-all: so is every element of R
+--   InXY r                 r is a polynomial in x and y; inxy_all: so is every element of R
 --   xy_times, xy_ideal     a space that is closed under x and y is an ideal
 --   span_ideal             Span bs is an ideal if it holds y·b for each b
 --   span_product           the product of Span bs and Span cs is the span of the products

@@ -10,8 +10,8 @@
 --   colon_equivalent       (u : (f : I)) is equivalent to I
 --   colon_combined         u·I + f·J = f·((u : (f : I)) + J)
 --   sum_footprint          I + J has a small footprint if J has one
---   colon_inside           if (u : N) lies in J, then u is in N-as-J
---   parts_equivalent       L-as-G is equivalent to I-as-J, if A is equivalent to I, L to A ∩ J, and G is A + J
+--   colon_inside           if (u : N) lies in J, then u is in N·J
+--   parts_equivalent       L·G is equivalent to I·J, if A is equivalent to I, L to A ∩ J, and G is A + J
 use mathlib.Core.Path.{◌≡◌, refl, sym, ◌∙◌, ap, subst}
 use Prim.Native.Nat.{ℕ, ◌+◌}
 use Rattle.algebra.specs.Ring.{CommRing}

@@ -55,7 +55,7 @@ sign_square : (p : ℕ) (n : Bool) → (Z p).mul (sign p n) (sign p n) ≡ (Z p)
 sign_square p true = neg-mul (Z p) _ _ ∙ ap (Z p).neg (mul-neg (Z p) _ _) ∙ neg-neg (Z p) _ ∙ (Z p).mul_one _
 sign_square p false = (Z p).mul_one _
 
--- A·(G-as-Q) = S-as-Q, Q-as-I = 1, D = S-as-G and S-as-S = 1 make A-as-D = 1
+-- A·(G·Q) = S·Q, Q·I = 1, D = S·G and S·S = 1 make A·D = 1
 divided : (R : CommRing) (A G Q I S D : R.Car) → R.mul A (R.mul G Q) ≡ R.mul S Q → R.mul Q I ≡ R.one → D ≡ R.mul S G → R.mul S S ≡ R.one
     → R.mul A D ≡ R.one
 divided R A G Q I S D e f g h =

@@ -1,5 +1,5 @@
 -- A quotient by 2^j modulo an odd p, by a multiple of p that makes the number divisible.
---   exact              n / J-as-J = n if n and a multiple of J make a multiple of J
+--   exact              n / J·J = n if n and a multiple of J make a multiple of J
 --   divides            2^j divides c + m·p for m = c·v modulo 2^j
 --   half half-fits     what `halved` returns, for J = 2^j, and that its product and its sum fit
 --   two_halves         a quotient by 2^h and one by 2^l make one by 2^(h + l)

@@ -1,6 +1,5 @@
 -- Cramer's rule: z·d = (d·(b × c))·a + (d·(c × a))·b + (d·(a × b))·c, for the determinant z = a·(b × c) of three columns.
 --   cramer                 … of columns with values of the vector and scalar products
---   combines-scaled        z times d and the inverse of z
 use mathlib.Core.Path.{◌≡◌, ◌∙◌}
 use Prim.Native.Nat.{ℕ, zero, suc}
 use Rattle.algebra.specs.Ring.{CommRing, ops}

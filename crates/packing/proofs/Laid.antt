@@ -1,6 +1,6 @@
 -- Bytes of a number laid in a slice, one run of them behind the other.
 --   laid_none          before the first byte
---   laid_more          k bytes laid behind the first j, and laid-store: one byte
+--   laid_more          k bytes laid behind the first j, and laid_store: one byte
 --   laid-low           what stands in the number above the bytes that are laid does not matter
 --   bytes4-unpacked    the bytes of the lowest 32 bits of n are the four lowest bytes of n
 --   Written d at end n out place left      out is d with the bytes of n from place `at` on, up to `place`, and `left` is the rest of n

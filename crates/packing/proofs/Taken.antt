@@ -4,7 +4,7 @@
 --   taken_none      before the first number
 --   placed held n bits, placed_is     n placed above the `bits` bits that are held; for the next number these are the bits behind those that are written
 --   taken_held      one number more, and nothing is written
---   taken_written   one number more, and four bytes are written; taken-room: there is room for them
+--   taken_written   one number more, and four bytes are written; taken_room: there is room for them
 --   taken_all       all numbers are taken up
 --   begun_all       and the bytes that were not yet written are
 use mathlib.Core.Path.{◌≡◌, refl, sym, ap, ◌∙◌, subst}

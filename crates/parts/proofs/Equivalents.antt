@@ -4,7 +4,7 @@
 --   other-part                     the reduced ideal of u·I + f·J is A + J, f the least element of I
 --   other-inside                   … and if its degree is not smaller than that of J, A lies inside J
 --   apart_is                       common multiple and common part of A and J, where the part is smaller
---   third-smaller                  A does not lie inside J for the second u or for the third: else N would lie inside N-as-J
+--   third-smaller                  A does not lie inside J for the second u or for the third: else N would lie inside N·J
 use mathlib.Core.Path.{◌≡◌, sym, subst}
 use mathlib.Core.Logic.{◌⊎◌, inl, inr}
 use Prim.Native.Nat.{ℕ, ◌/◌, ◌<◌, ◌≤◌}
@@ -196,7 +196,7 @@ module _ {g : Ground} {x y n : Divisor} {f : Polynomial} (neg : NegativeOf g x n
             same_trans (ring T) (colon_same (ring T) (value T f) same)
             (colon_colon (poles_of T) (monic-pole (poles_of T) least-i.monic) b.ideal b.based least-i.member)
 
-    -- u is in N-as-J if (u : N) lies inside J
+    -- u is in N·J if (u : N) lies inside J
     other_in : {j : ℕ} {w : Polynomial} → j < 3 → (k : MemberOf n j w) → ((e : (ring T).Car) → Colon (ring T) (value T w) K e → E e) → Product (ring T) K E (at j)
     other_in l k inside =
         subst (Product (ring T) K E) ((member_is T Q k).value_is T.curve) (colon_inside (poles_of T) smooth (value_in T Q k l) inside)

@@ -6,7 +6,7 @@
 --   MeetAsked, MeetOf      meet: the reduced ideal of (u : N) ∩ J, N the ideal of n
 --   MultipleOf             common_multiple: the reduced ideal of I ∩ J
 --   Smooth S               the curve is nonsingular
---   InsideAsked, ApartOf   apart: for I inside J two divisors whose product is equivalent to I-as-J, the second of smaller degree than y
+--   InsideAsked, ApartOf   apart: for I inside J two divisors whose product is equivalent to I·J, the second of smaller degree than y
 use Rattle.std.specs.Prelude.{◌≡◌, ◌⊎◌, ℕ, ◌/◌, ◌<◌, ◌≤◌}
 use Rattle.ideal.specs.Ideal.{Product, Colon, SameIdeal, Equivalent}
 use Rattle.ideal.specs.Reduced.{Least, IsReduced}

@@ -3,7 +3,7 @@
 --   point-bytes            its bytes are the point's record
 --   point-shaped           its numbers are below p
 --   point-basis, basis-point   it is a basis exactly if the pair is on the curve
---   point-given            … then it is an accepted divisor
+--   point-accepted         … then it is an accepted divisor
 --   point-ideal            its ideal is that of the point's record
 use mathlib.Core.Path.{◌≡◌, refl, subst}
 use mathlib.Core.List.{List}

@@ -1,6 +1,6 @@
 -- Polynomials in one variable over a commutative ring A: series that vanish from some place on. The place is under a truncation,
 -- so two polynomials are equal if their coefficients are. Example: X² + 3 is 3, 0, 1, 0, 0, …
---   Polynomial A       such series; series-path: two of them with the same coefficients are equal
+--   Polynomial A       such series; series_path: two of them with the same coefficients are equal
 --   Poly A             the ring of polynomials over A; shut, so that one reasons by its laws and by coefficients
 --   coef A f i         the coefficient of f at the i-th power of the variable
 --   poly A a h         the polynomial with the coefficients a; finite A f: those of f vanish from some place on

@@ -1,5 +1,5 @@
 -- The pool of the test, and what its calls and the list call return.
---   holds s rs             the test that the slots of s hold the records rs; holds-sound: then they do
+--   holds s rs             the test that the slots of s hold the records rs; holds_sound: then they do
 --   given                  the slots at the start hold the records of an accepted list on E
 --   asked                  so valid calls can be carried out on them
 --   few-left               they leave five records at most

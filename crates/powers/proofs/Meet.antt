@@ -1,5 +1,5 @@
 -- An invertible ideal times an intersection.
---   invertible_meet        what is in I-as-X and in I-as-Y is in I·(X ∩ Y), for an invertible ideal I
+--   invertible_meet        what is in I·X and in I·Y is in I·(X ∩ Y), for an invertible ideal I
 -- With I·I' = (e) and h in both: for b in I' is h·b = e·z with z in X, and h·b = e·z' with z' in Y. R is a domain, so z = z' is in X ∩ Y.
 -- For a in I is then (a·b)·h = e·(a·z), and a·z is in I·(X ∩ Y).
 -- e is a sum of products a·b, so e·h is e times an element of I·(X ∩ Y) (invertible-member), and that element is h.

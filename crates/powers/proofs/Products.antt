@@ -2,9 +2,9 @@
 --   Apart f times Good     the ideals f x of the good x are invertible, f x + f y is the whole ring for different good x and y, and times x xs
 --                          is how often x stands in the list xs
 --   power-ideal            the powers of an ideal are ideals
---   product-second         I-as-J lies in J
+--   product-second         I·J lies in J
 --   powers_product         what lies in the power times x xs of f x, for each good x, lies in the product of the ideals f x of the list xs
--- The step is power-join: h in the power suc (times x xs) of f x and in the product of xs is in f x times that product, by induction on xs.
+-- The step is power_join: h in the power suc (times x xs) of f x and in the product of xs is in f x times that product, by induction on xs.
 -- If x is the first of xs, the powers and products without the first f x meet (invertible_meet), and the rest of xs goes on.
 -- If y is: h is in f x times the product of the rest, and h = u·h + v·h with u in f x, v in f y, u + v = 1; both are in f x·(f y·the rest).
 use mathlib.Core.Path.{◌≡◌, sym, ◌∙◌, ap, subst}

@@ -7,7 +7,7 @@
 --   bytes_of_reads, bytes_of-accepted    it is accepted if the value is a basis
 --   bytes_of-ideal     its ideal is that of the value
 --   Holds κ s r        the value r has the kind κ and the numbers of the record s
---   read-back          an accepted record is the record of the value that has its kind and numbers
+--   read_back          an accepted record is the record of the value that has its kind and numbers
 --   read_based         such a value is a basis
 use mathlib.Core.Path.{◌≡◌, sym, ap, ◌∙◌}
 use mathlib.Core.Logic.Iff

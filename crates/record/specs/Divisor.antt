@@ -1,11 +1,11 @@
 -- Divisor records in bytes, on a curve C over the residues modulo p.
---   OfKind s κ          the record's kind is κ
---   number_at p s i      the residue of its i-th number
---   divisor_form s       what is checked of a divisor's bytes, in order: 6 for size, 7, 6 for the kind's length
---   divisor_rest p C s   what is checked behind the form, in order: 8, 9
---   divisor_stages p C s the form, and then the rest
+--   OfKind s κ              the record's kind is κ
+--   number_at p s i         the residue of its i-th number
+--   divisor_form s          what is checked of a divisor's bytes, in order: 6 for size, 7, 6 for the kind's length
+--   divisor_rest p C s      what is checked behind the form, in order: 8, 9
+--   divisor_stages p C s    the form, and then the rest
 --   AcceptedDivisor p C s   all of it holds
---   IdealOfBytes p C s   the ideal of a record: the one that its polynomials generate in the ring
+--   IdealOfBytes p C s      the ideal of a record: the one that its polynomials generate in the ring
 use Rattle.std.specs.Prelude.{◌≡◌, List, [], ◌∷◌, ◌++◌, ℕ, ◌+◌, ◌*◌, ◌<◌, length}
 use Rattle.algebra.specs.Ring.{CommRing}
 use Rattle.field.specs.Residue.{Z, el}

@@ -75,7 +75,7 @@ module _ {g : Ground} {x y c : Divisor} (h : PartOf g x y c) where
     pub parts_asked : RoadAsked g x y → RoadAsked g m c
     parts_asked A = record { pair = record { grounded = A.pair.grounded; a_is = (h' A.pair).0; b_is = (h A.pair).0 }; smooth = A.smooth }
 
-    -- (I ∩ J)·(I + J) = I-as-J
+    -- (I ∩ J)·(I + J) = I·J
     pub road_parts : {r : Divisor} → RoadOf g m c r → RoadOf g x y r
     unfolding parts_asked
     road_parts t A =

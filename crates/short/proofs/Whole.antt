@@ -1,5 +1,4 @@
 -- A record and its short form have the same kind and the same numbers, and each is what the other gives.
---   long-numbers       the numbers of an accepted record: how many, all below p, a basis
 --   short_of_record    the short form of an accepted record is accepted
 --   short-whole        the bytes of an accepted short record are those of its kind and numbers
 --   record_numbers_of  the numbers of the record for which a short record stands

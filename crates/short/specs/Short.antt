@@ -5,11 +5,11 @@
 --   body_size p κ          how many bytes the numbers of a short record take
 --   short_size p κ         its length
 --   short_bytes p κ ns     the short record that stands for the record of kind κ with the numbers ns
---   OfShort s κ           the kind of the short record s stands for κ
+--   OfShort s κ            the kind of the short record s stands for κ
 --   body s                 what stands behind its length and kind, as one number
 --   short_numbers p κ s    its numbers
 --   short_residue p κ s i  the residue of its i-th number
---   ZeroFilling p κ s     its filling is zero: the body is the numbers alone
+--   ZeroFilling p κ s      its filling is zero: the body is the numbers alone
 --   short_form p s         what is checked of its bytes, in order: 6 for size, 7, 6 for the kind's length
 --   short_rest p C s       what is checked behind the form, in order: 8, 15, 9
 --   short_stages p C s     the form, and then the rest

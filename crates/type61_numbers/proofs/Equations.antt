@@ -1,5 +1,5 @@
 -- The equations for the numbers F0 … H2 = n 0 … n 8 of the reduced ideal of an ideal of type 61, whose basis begins with
--- u = x³ + u5·y² + … + u0 and v = x²y + v5·y² + … + v0 (us i, vs i). Only F2-as-G2 and F2-as-H2, F2-as-H1, F2-as-H0 are told: where F2 is not zero, that is all.
+-- u = x³ + u5·y² + … + u0 and v = x²y + v5·y² + … + v0 (us i, vs i). Only F2·G2 and F2·H2, F2·H1, F2·H0 are told: where F2 is not zero, that is all.
 --   ℓ, Q, r0               a0·u5, ℓ·u5 − v5, F1 − G2
 --   F2-of … F2H0-of        the right sides, over any operations: each is named after its left side
 --   c-of C                 the coefficients c0 … c8 of a curve

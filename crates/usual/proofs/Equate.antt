@@ -4,7 +4,7 @@
 --   six O c3 … c8          the coefficients c3 … c8 by place
 --   nine O n0 … n5         the numbers F0 … G2 by place
 --   l-at, q-at, less-at    a0·u5, a0·u5² − v5, and v − a0·u5·u, as the code has them
---   f2_equals … h0-equals  the code's formula for the number is the equation's
+--   f2_equals … h1_equals  the code's formula for the number is the equation's
 use mathlib.Core.Path.{◌≡◌}
 use mathlib.Core.List.{[], ◌∷◌}
 use Prim.Native.Nat.{ℕ, zero, suc}

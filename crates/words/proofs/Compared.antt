@@ -1,7 +1,7 @@
 -- How many pairs of words are compared, and that the words tell the bytes.
 --   Agree i vs ws      the first i elements are the same
 --   compared_differ    i pairs are the same and the next differs: i + 1 are compared
---   compared-all       no pair differs: all are compared; compared-self: a list and itself
+--   compared-all       no pair differs: all are compared; compared_self: a list and itself
 --   compared-most      no more than there are words
 --   length_words       how many words there are
 --   same-words         strings of whole words are the same if their words are

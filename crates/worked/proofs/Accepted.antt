@@ -1,13 +1,13 @@
 -- Curves and records in bytes, accepted and refused by computation.
 --   Smooth             certificate of an accepted curve: s·Fx + t·Fy = 1 on the curve
---   smooth c k         the test; curve-sound: the curve c is accepted
+--   smooth c k         the test; curve_sound: the curve c is accepted
 --   Singular           certificate of a singular curve: a basis of a kind but 0 whose ideal holds Fx and Fy
---   singular c k       the test; singular-sound: the curve c is refused with 5
+--   singular c k       the test; singular_sound: the curve c is refused with 5
 --   Known              certificate of an accepted record: its kind, and how y times each member is made of the members
---   known c w k        the test; known_reads, known-record: the record w is accepted on the curve c
+--   known c w k        the test; known_reads, known_record: the record w is accepted on the curve c
 --   Fault              why a record of its kind's form is refused: a number not below p; or no basis, and how 1 is made of its polynomials
 --   Spoilt             certificate of a refused record: its kind and its fault
---   spoilt c w n k     the test; spoilt-sound: the record w is refused with n, which is 8 or 9
+--   spoilt c w n k     the test; spoilt_sound: the record w is refused with n, which is 8 or 9
 --   numbers_of         the numbers of a record in bytes
 use mathlib.Core.Path.{◌≡◌, refl, sym, subst}
 use mathlib.Core.Logic.{inl, inr}

@@ -4,8 +4,8 @@
 --   values-polynomials, values-members     they are the record's
 --   generated_combine                      the sum of the products q·e is in the ideal that the es generate
 --   ideal_combine                          and so for the ideal of a record
---   closed p n κ m qss                     the test that the span of the members is closed under y; basis-sound: then the record is a basis
---   whole p n κ m qs                       the test that 1 is in the ideal of a record of a kind but 0; whole-sound: then it is no basis
+--   closed p n κ m qss                     the test that the span of the members is closed under y; basis_sound: then the record is a basis
+--   whole p n κ m qs                       the test that 1 is in the ideal of a record of a kind but 0; whole_sound: then it is no basis
 --   one-basis                              1 is not in the ideal of a basis of a kind but 0
 --   proper κ                               test: κ is a kind but 0
 use mathlib.Core.Path.{◌≡◌, refl, sym, ◌∙◌, ap, subst}

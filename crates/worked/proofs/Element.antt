@@ -1,5 +1,5 @@
 -- Expressions in x and y and the elements of the coordinate ring that they stand for.
---   only_x e           the test that y is not in e; inx-sound: then e is a polynomial in x
+--   only_x e           the test that y is not in e; inx_sound: then e is a polynomial in x
 --   rows r0 r1 r2      the expression r0(x) + r1(x)·y + r2(x)·y², the coefficients listed from the constant one on
 --   rows_parts         it stands for the element of these parts
 --   nonzero p n e      the test that e is not zero: some coefficient of its normal form is not; nonzero_sound

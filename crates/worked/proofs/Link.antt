@@ -1,11 +1,11 @@
 -- Sums by computation. A certificate of a sum has α and β that are not zero, and says how α times each product of a polynomial of a and one
 -- of b is β times a combination of the polynomials of w, and how β times each polynomial of w is α times a combination of those products. So
 -- the product of the ideals of a and b is equivalent to the ideal of w.
---   Matched R α β J g      α·g = β·h for some h of J; matched-ideal: the set of these g is an ideal
+--   Matched R α β J g      α·g = β·h for some h of J; matched_ideal: the set of these g is an ideal
 --   equivalent_generated   two ideals are equivalent if each generator of one is matched in the other
 --   products_xy gs hs      the products of one expression from each list; values-products
 --   Link                   the certificate
---   link c a b w κs k      the test; sum-sound: w is the sum of a and b
+--   link c a b w κs k      the test; sum_sound: w is the sum of a and b
 --   polynomials-of κ w     the polynomials of a record in bytes as expressions; ideal-values: they generate its ideal
 --   product-values         the products of the polynomials of two records generate the product of their ideals
 use mathlib.Core.Path.{◌≡◌, refl, sym, ◌∙◌, ap, ap₂, subst}

@@ -2,7 +2,7 @@
 -- polynomial of a and so its least element, and if for each pole number r that remains for w the number deg f + 5 − r is a lead of a.
 --   low κ                  the class modulo 3 of the kind's least member
 --   basis-least            the least element of the ideal of a basis
---   negated c a w κs qs    the test, with the quotients qs by f; negative-sound: w is the negative of a
+--   negated c a w κs qs    the test, with the quotients qs by f; negative_sound: w is the negative of a
 --   located c a b κ w      the test that w is the record of the point (a, b); point_sound
 use mathlib.Core.Path.{◌≡◌, refl, sym, ◌∙◌, ap, ap₂, subst}
 use mathlib.Core.Bool.{Bool, true, false}

@@ -1,7 +1,7 @@
 -- The test of a worked sum, and what it shows.
 --   Certificate r          what the test of the row r is given
 --   Step                   of a multiple: the record of one copy more, its certificate, and how it is the sum of the one before and a
---   test r k               the test; means-sound: what it accepts holds
+--   test r k               the test; means_sound: what it accepts holds
 --   answer                 what holds by the definitions, the call returns
 --   tests rs ks            the tests of all rows; shown: then each row holds, and its call answers accordingly
 use mathlib.Core.Path.{◌≡◌, refl, sym, subst}

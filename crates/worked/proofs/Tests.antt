@@ -1,5 +1,5 @@
 -- Tests by computation, and what they show.
---   below p f k        test: f 0, …, f (k − 1) are below p; below-sound: then they are
+--   below p f k        test: f 0, …, f (k − 1) are below p; below_sound: then they are
 --   prime p            test: p is a prime; prime_sound
 --   bytes s            test: every element of s is below 256; bytes_sound
 use mathlib.Core.Path.{◌≡◌}

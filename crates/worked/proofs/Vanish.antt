@@ -5,7 +5,7 @@
 --   coefficients-of n  the curve y³ + x⁴ + c8·xy² + … + c0 with the coefficients c0, …, c8 = n 0, …, n 8
 --   at_xy e            the value of the expression e in the coordinate ring
 --   constant_number    the constant m is the ring's number m
---   vanishes p n e     the test that e is zero; vanish-sound: then it is
+--   vanishes p n e     the test that e is zero; vanish_sound: then it is
 --   agree p n e e'     the test that e and e' are equal; agree_sound
 --   divide             division of a normal form by the cubic: quotient and rest
 --   Division           its result
