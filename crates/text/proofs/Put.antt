@@ -2,14 +2,13 @@
 --   put_nothing      nothing put
 --   put_one          one store
 --   put_then         a text and then another, behind it, are the two together
---   put_pasted       a text that was copied byte by byte
 use mathlib.Core.Path.{◌≡◌, refl, sym, ap, ◌∙◌}
 use mathlib.Core.List.{List, [], ◌∷◌, ◌++◌, append_assoc, append-nil}
 use Prim.Native.Nat.{ℕ, ◌+◌, ◌≤◌}
 use native.Mathlib.Nat.{add-zero}
 use native.Mathlib.Omega.{arith}
 use lib.ListN.{length, take, drop, set, length-append, take-append-drop}
-use lib.Seq.{take_at, drop_at, drop-drop, length-take-le, sets-eq, paste, take-length}
+use lib.Seq.{take_at, drop_at, drop-drop, length-take-le, sets-eq}
 use Rattle.text.specs.Put.{Put}
 
 pub put_nothing : (s : List ℕ) (at : ℕ) → Put s at [] at s
@@ -42,11 +41,3 @@ module _ {s : List ℕ} {at : ℕ} {text : List ℕ} {m : ℕ} {s' : List ℕ} (
         next = q.next ∙ end;
         is = q.is ∙ rw (before, behind) (simp append_assoc);
       }
-
--- all bytes of a text, copied
-pub put_pasted : (s : List ℕ) (at : ℕ) (text s' : List ℕ) (i : ℕ) → i ≡ length text → s' ≡ paste s at text i → Put s at text (at + i) s'
-put_pasted s at text s' i e h =
-    record {
-      next = ap (λ (k : ℕ). at + k) e;
-      is = h ∙ ap (paste s at text) e ∙ ap (λ (t : List ℕ). take at s ++ t ++ drop (at + length text) s) (take-length text);
-    }

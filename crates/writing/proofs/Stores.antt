@@ -1,5 +1,4 @@
 -- What stores one after the other leave.
---   stores2, stores4    two and four stores from place i on replace the bytes there
 --   all_bytes4_append, all_bytes4-one    the bytes of two runs of numbers, and of one number
 --   filled d at ns i    d with the first i numbers of ns written from place `at` on
 --   written_behind      a length, a kind and some bytes, written one after the other
@@ -9,20 +8,12 @@ use mathlib.Core.Path.{◌≡◌, refl, sym, ap, ◌∙◌}
 use mathlib.Core.List.{List, [], ◌∷◌, ◌++◌, append_assoc, append-nil}
 use Prim.Native.Nat.{ℕ, ◌+◌, ◌*◌, ◌≤◌, ◌<◌}
 use native.Mathlib.Nat.{add-zero}
-use native.Mathlib.Numerals.{add-one, add-two, add-three}
+use native.Mathlib.Numerals.{add-one}
 use native.Mathlib.Omega.{arith}
-use lib.ListN.{length, get_or, take, drop, set, length-append, take-append-drop}
-use lib.Seq.{sets-eq, take_at, drop_at, drop-drop, take-suc, length-take-le}
+use lib.ListN.{length, get_or, take, drop, length-append, take-append-drop}
+use lib.Seq.{take_at, drop_at, drop-drop, take-suc, length-take-le}
 use Rattle.layout.specs.Layout.{bytes2, bytes4, all_bytes4, record_bytes}
 use Rattle.layout.proofs.Bytes.{length_bytes2, length_all_bytes4}
-
-pub stores2 : (s : List ℕ) (i a b : ℕ) → i + 2 ≤ length s
-    → set (set s i a) (i + 1) b ≡ take i s ++ (a ∷ b ∷ []) ++ drop (i + 2) s
-stores2 s i a b h = rw add-one (sets-eq (a ∷ b ∷ []) s i h)
-
-pub stores4 : (s : List ℕ) (i a b c d : ℕ) → i + 4 ≤ length s
-    → set (set (set (set s i a) (i + 1) b) (i + 2) c) (i + 3) d ≡ take i s ++ (a ∷ b ∷ c ∷ d ∷ []) ++ drop (i + 4) s
-stores4 s i a b c d h = rw (add-one, add-two, add-three) (sets-eq (a ∷ b ∷ c ∷ d ∷ []) s i h)
 
 pub all_bytes4_append : (ms ns : List ℕ) → all_bytes4 (ms ++ ns) ≡ all_bytes4 ms ++ all_bytes4 ns
 unfolding all_bytes4
@@ -96,12 +87,11 @@ written_behind d d1 d2 d3 bs size kind n room e1 e2 e3 =
     let long : length head ≡ 4 = simp (length-append, length_bytes2) in
     e3 ∙ ap (λ (r : List ℕ). take 4 r ++ bs ++ drop (4 + n) r) two ∙ written-tail head d bs n long
 
-pub written : (d d1 d2 d3 ns : List ℕ) (kind count : ℕ) → 4 + 4 * count ≤ length d → count ≤ length ns
-    → d1 ≡ take 0 d ++ bytes2 (4 + 4 * count) ++ drop 2 d
+pub written : (d d1 d2 d3 ns : List ℕ) (kind : ℕ) → 4 + 4 * length ns ≤ length d
+    → d1 ≡ take 0 d ++ bytes2 (4 + 4 * length ns) ++ drop 2 d
     → d2 ≡ take 2 d1 ++ bytes2 kind ++ drop 4 d1
-    → d3 ≡ take 4 d2 ++ all_bytes4 (take count ns) ++ drop (4 + 4 * count) d2
-    → d3 ≡ record_bytes kind (take count ns) ++ drop (4 + 4 * count) d
+    → d3 ≡ take 4 d2 ++ all_bytes4 ns ++ drop (4 + 4 * length ns) d2
+    → d3 ≡ record_bytes kind ns ++ drop (4 + 4 * length ns) d
 unfolding record_bytes
-written d d1 d2 d3 ns kind count room there e1 e2 e3 =
-    written_behind d d1 d2 d3 (all_bytes4 (take count ns)) (4 + 4 * count) kind (4 * count) (omega arith) e1 e2 e3
-    ∙ ap (λ (k : ℕ). bytes2 (4 + 4 * k) ++ bytes2 kind ++ all_bytes4 (take count ns) ++ drop (4 + 4 * count) d) (sym (length-take-le count ns there))
+written d d1 d2 d3 ns kind room e1 e2 e3 =
+    written_behind d d1 d2 d3 (all_bytes4 ns) (4 + 4 * length ns) kind (4 * length ns) (omega arith) e1 e2 e3
