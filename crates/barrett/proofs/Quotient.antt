@@ -3,7 +3,7 @@
 --   reciprocal-high       2^64 ≤ p·k + p
 --   whole_below           q·p ≤ x
 --   whole-near            x − q·p < 2·p
---   half-quotient half-below half-rest      the quotient by the factor of a divider is the quotient of x by p, for x below 2^63, and what it leaves is x modulo p
+--   half-quotient half-below half-rest      the quotient by the factor of a modulus is the quotient of x by p, for x below 2^63, and what it leaves is x modulo p
 --   el_turns              el (r + c·p) = el r
 --   rest-small rest-large       what is left is x modulo p, without the correction and with it
 use mathlib.Core.Path.{◌≡◌, sym, ◌∙◌, ap}
@@ -13,8 +13,7 @@ use native.Mathlib.Omega.{arith}
 use Rattle.field.specs.Residue.{el}
 use Rattle.field.specs.Contract.{Is}
 use Rattle.field.proofs.Element.{el-same}
-use Rattle.barrett.specs.declared.Divider.{Divider}
-use Rattle.barrett.specs.Divider.{Divides}
+use Rattle.barrett.specs.Divides.{Divides}
 use Rattle.barrett.specs.Contract.{high_half}
 
 -- with n for 2^64, and s for what the high half leaves
@@ -56,12 +55,12 @@ module _ (p x k q : ℕ) (is : q ≡ high_half x k) where
   rest_below : 0 < p → x < 18446744073709551616 → 18446744073709551616 ≤ p * k + p → x < q * p + 2 * p
   rest_below pos fits h = rest 18446744073709551616 p x k q _ high pos fits (omega arith) h
 
-module _ {p : ℕ} {by : Divider} (d : Divides p by) (x q : ℕ) (is : q ≡ high_half x by.reciprocal) where
+module _ {p reciprocal factor shift opposite : ℕ} (d : Divides p reciprocal factor shift opposite) (x q : ℕ) (is : q ≡ high_half x reciprocal) where
   pub whole_below : q * p ≤ x
-  whole_below = quotient-below p x _ q is (reciprocal-low p _ d.positive d.reciprocal)
+  whole_below = quotient-below p x _ q is (reciprocal-low p _ d.positive d.reciprocal_is)
 
   pub whole-near : x < 18446744073709551616 → x < q * p + 2 * p
-  whole-near fits = rest_below p x _ q is d.positive fits (reciprocal-high p _ d.positive d.reciprocal)
+  whole-near fits = rest_below p x _ q is d.positive fits (reciprocal-high p _ d.positive d.reciprocal_is)
 
 pub el_turns : (p r c : ℕ) → el p (r + c * p) ≡ el p r
 el_turns p r c = el-same p (r + c * p) r (add-mul-mod_self_right r c p)
@@ -73,15 +72,15 @@ module _ (p x q : ℕ) where
   pub rest-large : q * p ≤ x → p ≤ x - q * p → x < q * p + 2 * p → Is p (x - q * p - p) (el p x)
   rest-large l h u = record { below = omega arith; is = sym (el_turns p _ (q + 1)) ∙ ap (el p) (omega arith) }
 
-module _ {p : ℕ} {by : Divider} (d : Divides p by) (x h : ℕ) (fits : x < 9223372036854775808) (is : h ≡ high_half x by.factor) where
-  half-quotient : h / 2 ^ by.shift ≡ x / p
+module _ {p reciprocal factor shift opposite : ℕ} (d : Divides p reciprocal factor shift opposite) (x h : ℕ) (fits : x < 9223372036854775808) (is : h ≡ high_half x factor) where
+  half-quotient : h / 2 ^ shift ≡ x / p
   unfolding high_half
-  half-quotient = ap (λ (n : ℕ). n / 2 ^ by.shift) is ∙ d.quotient x fits
+  half-quotient = ap (λ (n : ℕ). n / 2 ^ shift) is ∙ d.quotient x fits
 
-  pub half-below : h / 2 ^ by.shift * p ≤ x
+  pub half-below : h / 2 ^ shift * p ≤ x
   half-below = omega (arith, ap (λ (n : ℕ). n * p) half-quotient, div-add-mod x p)
 
-  pub half-rest : Is p (x - h / 2 ^ by.shift * p) (el p x)
+  pub half-rest : Is p (x - h / 2 ^ shift * p) (el p x)
   half-rest =
-      rest-small p x (h / 2 ^ by.shift) half-below
+      rest-small p x (h / 2 ^ shift) half-below
       (omega (arith, ap (λ (n : ℕ). n * p) half-quotient, div-add-mod x p, mod-lt x {m = p} d.positive))

@@ -1,3 +1,3 @@
 -- Formulas, and what the functions require and ensure.
 pub mod Contract
-pub mod Divider
+pub mod Divides

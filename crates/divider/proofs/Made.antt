@@ -6,7 +6,7 @@ use Prim.Native.Nat.{ℕ, ◌+◌, ◌*◌, ◌-◌, ◌/◌, ◌%◌, ◌^◌, 
 use native.Mathlib.Omega.{arith}
 use lib.Count.{count_leading_zeros}
 use Rattle.inversion.specs.Contract.{Odd, Opposite}
-use Rattle.barrett.specs.Divider.{Divides}
+use Rattle.barrett.specs.Divides.{Divides}
 use Rattle.divider.specs.Contract.{DividerAsked}
 use Rattle.divider.proofs.Exact.{exact}
 use Rattle.divider.proofs.Factor.{first_below, factor}
@@ -20,16 +20,11 @@ module _ (p n : ℕ) (asked : DividerAsked p) (is : n ≡ 4294967296 * 2 ^ (31 -
   high-below = first_below _ p n whole (above p asked.least asked.below) asked.below
 
   pub made : (v : ℕ) → (Odd p → Opposite p v)
-      → Divides p (record {
-        reciprocal = 18446744073709551615 / p;
-        factor = n / p * 4294967296 + n % p * 4294967296 / p + 1;
-        shift = 31 - count_leading_zeros 32 (p - 1);
-        opposite = v;
-      })
+      → Divides p (18446744073709551615 / p) (n / p * 4294967296 + n % p * 4294967296 / p + 1) (31 - count_leading_zeros 32 (p - 1)) v
   made v h = record {
     positive = omega arith;
-    reciprocal = refl;
-    shift = omega arith;
+    reciprocal_is = refl;
+    shift_below = omega arith;
     quotient = exact _ p _ _ (factor _ p n whole (omega arith)) (omega arith) (above p asked.least asked.below) (most p asked.least asked.below);
-    opposite = h;
+    opposite_is = h;
   }

@@ -1,15 +1,15 @@
-// The divider of p: what divides by p without a division, made once for a curve.
+// The modulus p with what divides by it without a division, made once for a curve.
 #![tactic(auto)]
 
-ghost use Rattle.barrett.specs.Divider.{Divides};
+ghost use Rattle.std.specs.Prelude.{◌≡◌};
 ghost use Rattle.divider.specs.Contract.{DividerAsked};
 
-use barrett::Divider;
+use barrett::Modulus;
 
-// The divider of p. With 2^s < p ≤ 2^(s + 1) the factor is ⌊2^(64 + s)/p⌋ + 1, by two divisions.
-pub fn of(p: u32) -> Divider
+// The modulus p. With 2^s < p ≤ 2^(s + 1) the factor is ⌊2^(64 + s)/p⌋ + 1, by two divisions.
+pub fn of(p: u32) -> Modulus
     requires { DividerAsked p }
-    ensures { Divides p result }
+    ensures { result.p ≡ p }
 {
     let w = p as u64;
     let shift = 31 - u32::leading_zeros(p - 1);
@@ -17,7 +17,8 @@ pub fn of(p: u32) -> Divider
     let high = n / w;
     let low = (n % w) * 4294967296 / w;
     let opposite = inversion::opposite_of(p);
-    Divider {
+    Modulus {
+        p,
         reciprocal: 18446744073709551615 / w,
         factor: high * 4294967296 + low + 1,
         shift,

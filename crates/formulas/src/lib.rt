@@ -3,10 +3,9 @@
 // f·v = u·(g + a0·u5·f) and f2·h = (y + g1)·f − (x + f1 − g2)·g; comparing coefficients gives its numbers.
 #![tactic(auto)]
 
-ghost use Rattle.barrett.specs.Divider.{Divides};
 ghost use Rattle.formulas.specs.Contract.{FactorsAsked, FactorsOf, TailAsked, TailOf, HeadAsked, HeadOf, BodyAsked, BodyOf, LastAsked, LastOf, InversesAsked, InversesOf};
 
-use barrett::Divider;
+use barrett::Modulus;
 use basis::Divisor;
 use entries::Lower;
 use matrix::Column;
@@ -64,67 +63,63 @@ pub struct Inverses {
 }
 
 // The inverse of z and z²/y, where z·y is not 0, by one inversion.
-pub fn inverses_of(p: u32, by: Divider, f: Factors) -> Inverses
-    requires inverses_asked { InversesAsked p f }
-    requires divides { Divides p by }
-    ensures { InversesOf p f result }
+pub fn inverses_of(modulus: Modulus, f: Factors) -> Inverses
+    requires { InversesAsked modulus.p f }
+    ensures { InversesOf modulus.p f result }
 {
-    let w = inversion::inverse_by(p, by.opposite, f.zy);
-    let one = barrett::mul(p, by, f.y, w);
-    let two = barrett::mul(p, by, f.zzz, w);
+    let w = inversion::inverse_by(modulus.p, modulus.opposite, f.zy);
+    let one = modulus.mul(f.y, w);
+    let two = modulus.mul(f.zzz, w);
     Inverses { one, two }
 }
 
 // The square of the determinant z times f2 of the sum, by z times the row-reduced form: b is its entry in row 2 and column 4, c and e those in row 3 and columns 4 and 5. Its
 // product with z is formed beside it, not after it.
-pub fn factors_of(p: u32, by: Divider, o: Lower, f2: u32, z: u32, b: u32, c: u32, e: u32) -> Factors
-    requires factors_asked { FactorsAsked p o f2 z b c e }
-    requires divides { Divides p by }
-    ensures { FactorsOf p o f2 z b c e result }
+pub fn factors_of(modulus: Modulus, o: Lower, f2: u32, z: u32, b: u32, c: u32, e: u32) -> Factors
+    requires { FactorsAsked modulus.p o f2 z b c e }
+    ensures { FactorsOf modulus.p o f2 z b c e result }
 {
-    let w0 = field::sub(p, e, b);
-    let w1 = chains::more1_less1(p, by, w0, z, f2, o.n11, c);
-    let w2 = barrett::mul(p, by, o.n12, c);
-    let zz = barrett::mul(p, by, z, z);
-    let zc = barrett::mul(p, by, z, c);
-    let zy = barrett::cross(p, by, zz, w1, w2, zc);
-    let y = barrett::cross(p, by, z, w1, w2, c);
-    let zzz = barrett::mul(p, by, zz, z);
+    let w0 = field::sub(modulus.p, e, b);
+    let w1 = chains::more1_less1(modulus, w0, z, f2, o.n11, c);
+    let w2 = modulus.mul(o.n12, c);
+    let zz = modulus.mul(z, z);
+    let zc = modulus.mul(z, c);
+    let zy = modulus.cross(zz, w1, w2, zc);
+    let y = modulus.cross(z, w1, w2, c);
+    let zzz = modulus.mul(zz, z);
     Factors { y, zy, zzz }
 }
 
 // The numbers of x·q less v0·f + v1·g + v2·h at x, y, x² and xy, for the polynomial q with the numbers q0, q1, q2.
-pub fn tail_of(p: u32, by: Divider, n: Divisor, q0: u32, q1: u32, q2: u32, v: Column) -> Tail
-    requires tail_asked { TailAsked p n q0 q1 q2 v }
-    requires divides { Divides p by }
-    ensures { TailOf p n q0 q1 q2 v result }
+pub fn tail_of(modulus: Modulus, n: Divisor, q0: u32, q1: u32, q2: u32, v: Column) -> Tail
+    requires { TailAsked modulus.p n q0 q1 q2 v }
+    ensures { TailOf modulus.p n q0 q1 q2 v result }
 {
-    let t1 = barrett::less3(p, by, q0, v.one, n.n1, v.x, n.n4, v.y, n.n7);
-    let t2 = barrett::less3(p, by, 0, v.one, n.n2, v.x, n.n5, v.y, n.n8);
-    let t3 = field::sub(p, q1, v.one);
-    let t4 = field::sub(p, q2, v.x);
+    let t1 = modulus.less3(q0, v.one, n.n1, v.x, n.n4, v.y, n.n7);
+    let t2 = modulus.less3(0, v.one, n.n2, v.x, n.n5, v.y, n.n8);
+    let t3 = field::sub(modulus.p, q1, v.one);
+    let t4 = field::sub(modulus.p, q2, v.x);
     Tail { t1, t2, t3, t4 }
 }
 
 // f2, g1 and f1 − g2 of the sum, and what they are made of; a and b are −u5 and −v5.
-pub fn head_of(p: u32, by: Divider, o: Lower, u: Tail, v: Tail, a: u32, b: u32) -> Head
-    requires head_asked { HeadAsked p o u v a b }
-    requires divides { Divides p by }
-    ensures { HeadOf p o u v a b result }
+pub fn head_of(modulus: Modulus, o: Lower, u: Tail, v: Tail, a: u32, b: u32) -> Head
+    requires { HeadAsked modulus.p o u v a b }
+    ensures { HeadOf modulus.p o u v a b result }
 {
-    let l = barrett::mul(p, by, o.n12, a);
-    let q = barrett::less1(p, by, b, l, a);
-    let w1 = field::add(p, u.t4, q);
-    let f2 = barrett::less1(p, by, w1, o.n11, a);
-    let k2 = barrett::less1(p, by, u.t3, o.n10, a);
-    let w2 = field::sub(p, k2, v.t4);
-    let w3 = field::add(p, f2, u.t4);
-    let r0 = barrett::more1(p, by, w2, l, w3);
-    let w4 = barrett::mul(p, by, o.n12, f2);
-    let w5 = field::add(p, u.t3, r0);
-    let g1 = chains::more1_less2(p, by, v.t3, o.n9, a, l, w5, w4, q);
-    let e3 = barrett::less1(p, by, v.t3, l, u.t3);
-    let e4 = barrett::less1(p, by, v.t4, l, u.t4);
+    let l = modulus.mul(o.n12, a);
+    let q = modulus.less1(b, l, a);
+    let w1 = field::add(modulus.p, u.t4, q);
+    let f2 = modulus.less1(w1, o.n11, a);
+    let k2 = modulus.less1(u.t3, o.n10, a);
+    let w2 = field::sub(modulus.p, k2, v.t4);
+    let w3 = field::add(modulus.p, f2, u.t4);
+    let r0 = modulus.more1(w2, l, w3);
+    let w4 = modulus.mul(o.n12, f2);
+    let w5 = field::add(modulus.p, u.t3, r0);
+    let g1 = chains::more1_less2(modulus, v.t3, o.n9, a, l, w5, w4, q);
+    let e3 = modulus.less1(v.t3, l, u.t3);
+    let e4 = modulus.less1(v.t4, l, u.t4);
     Head {
         l,
         q,
@@ -138,38 +133,36 @@ pub fn head_of(p: u32, by: Divider, o: Lower, u: Tail, v: Tail, a: u32, b: u32) 
 }
 
 // g2, f1, f0 and g0 of the sum; i is the inverse of f2.
-pub fn body_of(p: u32, by: Divider, o: Lower, u: Tail, v: Tail, a: u32, h: Head, i: u32) -> Body
-    requires body_asked { BodyAsked p o u v a h i }
-    requires divides { Divides p by }
-    ensures { BodyOf p o u v a h i result }
+pub fn body_of(modulus: Modulus, o: Lower, u: Tail, v: Tail, a: u32, h: Head, i: u32) -> Body
+    requires { BodyAsked modulus.p o u v a h i }
+    ensures { BodyOf modulus.p o u v a h i result }
 {
-    let m = barrett::less1(p, by, h.e4, o.n11, h.q);
-    let w1 = field::neg(p, u.t2);
-    let w2 = field::add(p, h.g1, o.n8);
-    let w = chains::more2_less1(p, by, w1, h.f2, m, a, w2, h.q, h.r0);
-    let g2 = barrett::mul(p, by, i, w);
-    let f1 = field::add(p, h.r0, g2);
-    let k1 = barrett::less1(p, by, h.e3, o.n10, h.q);
-    let w3 = field::sub(p, u.t1, v.t2);
-    let w4 = chains::more2_less2(p, by, w3, h.g1, u.t4, h.l, u.t2, h.f2, k1, o.n7, a);
-    let f0 = chains::more1_less1(p, by, w4, g2, h.k2, f1, h.e4);
-    let k3 = barrett::cross(p, by, h.f2, h.q, g2, a);
-    let w5 = chains::more1_less1(p, by, v.t1, o.n6, a, h.g1, u.t3);
-    let w6 = field::add(p, f0, u.t1);
-    let g0 = chains::more1_less2(p, by, w5, f1, h.e3, o.n9, k3, h.l, w6);
+    let m = modulus.less1(h.e4, o.n11, h.q);
+    let w1 = field::neg(modulus.p, u.t2);
+    let w2 = field::add(modulus.p, h.g1, o.n8);
+    let w = chains::more2_less1(modulus, w1, h.f2, m, a, w2, h.q, h.r0);
+    let g2 = modulus.mul(i, w);
+    let f1 = field::add(modulus.p, h.r0, g2);
+    let k1 = modulus.less1(h.e3, o.n10, h.q);
+    let w3 = field::sub(modulus.p, u.t1, v.t2);
+    let w4 = chains::more2_less2(modulus, w3, h.g1, u.t4, h.l, u.t2, h.f2, k1, o.n7, a);
+    let f0 = chains::more1_less1(modulus, w4, g2, h.k2, f1, h.e4);
+    let k3 = modulus.cross(h.f2, h.q, g2, a);
+    let w5 = chains::more1_less1(modulus, v.t1, o.n6, a, h.g1, u.t3);
+    let w6 = field::add(modulus.p, f0, u.t1);
+    let g0 = chains::more1_less2(modulus, w5, f1, h.e3, o.n9, k3, h.l, w6);
     Body { g2, f1, f0, g0 }
 }
 
 // h0, h1 and h2 of the sum; i is the inverse of f2.
-pub fn last_of(p: u32, by: Divider, h: Head, b: Body, i: u32) -> Last
-    requires last_asked { LastAsked p h b i }
-    requires divides { Divides p by }
-    ensures { LastOf p h b i result }
+pub fn last_of(modulus: Modulus, h: Head, b: Body, i: u32) -> Last
+    requires { LastAsked modulus.p h b i }
+    ensures { LastOf modulus.p h b i result }
 {
-    let k = barrett::mul(p, by, i, h.r0);
-    let l = barrett::mul(p, by, i, h.g1);
-    let h2 = chains::more1_less1(p, by, h.g1, i, b.f0, b.g2, k);
-    let h1 = barrett::cross(p, by, l, b.g2, i, b.g0);
-    let h0 = barrett::cross(p, by, b.f0, l, b.g0, k);
+    let k = modulus.mul(i, h.r0);
+    let l = modulus.mul(i, h.g1);
+    let h2 = chains::more1_less1(modulus, h.g1, i, b.f0, b.g2, k);
+    let h1 = modulus.cross(l, b.g2, i, b.g0);
+    let h0 = modulus.cross(b.f0, l, b.g0, k);
     Last { h0, h1, h2 }
 }

@@ -1,15 +1,15 @@
-// The ground of the arithmetic on a curve, by value: the modulus p, its divider, the inverse of −a0 and the vector of y³.
+// The ground of the arithmetic on a curve, by value: the modulus p and what divides by it, the inverse of −a0 and the vector of y³.
 #![tactic(auto)]
 
 ghost use Rattle.ground.specs.Ground.{GroundAsked, GroundOf};
 
-use barrett::Divider;
+use barrett::Modulus;
 use equation::Equation;
 
 #[derive(Clone, Copy)]
 pub struct Ground {
     pub p: u32,
-    pub by: Divider,
+    pub by: Modulus,
     pub unit: u32,
     pub cube: [u32; 26],
 }

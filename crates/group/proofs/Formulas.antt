@@ -1,10 +1,9 @@
--- The sum of two divisors by formulas, where these are tried and serve, and else by the product.
+-- The sum of two divisors by formulas, where these are tried and serve.
 --   formulas_tried         the formulas may be tried for two divisors of kind 31
---   formulas_sum           where they serve, they give the sum
---   formulas_fail          where they do not serve, the sum is another one
+--   formulas_sum           what they give is the sum
 --   first-other, second-other      they say nothing of a divisor of another kind
 use mathlib.Core.Path.{◌≡◌, sym, subst, subst₂}
-use mathlib.Core.Bool.{true, false, false≢true}
+use Rattle.std.specs.Prelude.{Option, Some, None, IfSome}
 use Rattle.ideal.specs.Ideal.{Product}
 use Rattle.ideal.specs.Reduced.{IsReduced}
 use Rattle.divisor.specs.Kind.{k31, IdealOf}
@@ -13,7 +12,6 @@ use Rattle.ground.specs.declared.Ground.{Ground}
 use Rattle.basis.specs.declared.Divisor.{Divisor}
 use Rattle.basis.specs.Divisor.{residues, BasisValue}
 use Rattle.basis.proofs.Choice.{only}
-use Rattle.usual.specs.declared.Tried.{Tried}
 use Rattle.usual.specs.Trial.{TriedAsked, TriedOf, Summed}
 use Rattle.group.specs.Contract.{IsDivisor, SumAsked, SumIs, SumOf, TriedSumOf}
 
@@ -41,15 +39,16 @@ module _ {g : Ground} {a b : Divisor} (ka : a.kind ≡ 31) (kb : b.kind ≡ 31) 
           (kind_31 A.a_is ka) (kind_31 A.b_is kb) s.reduced,
     )
 
-  pub formulas_sum : {t : Tried} → TriedOf g a b t → t.served ≡ true → TriedSumOf g a b t
-  formulas_sum T e = record { sum = λ A. formulas_is A ((T (formulas_tried A)).yes e); tried = T }
+  pub formulas_sum : {t : Option Divisor} → TriedOf g a b t → TriedSumOf g a b t
+  formulas_sum {t} T = record { sum = sum t T; tried = T }
+    where
+      sum : (t : Option Divisor) → TriedOf g a b t → IfSome t (SumOf g a b)
+      sum None T = tt
+      sum (Some s) T = λ A. formulas_is A (T (formulas_tried A)).yes
 
-module _ {g : Ground} {a b s : Divisor} (h : SumOf g a b s) where
-  pub formulas_fail : {t : Tried} → TriedOf g a b t → t.served ≡ false → TriedSumOf g a b (record { served = false; sum = s })
-  formulas_fail T e = record { sum = h; tried = λ A. record { yes = λ f. absurd (false≢true f); no = λ _. (T A).no e } }
+module _ {g : Ground} {a b : Divisor} where
+  pub first-other : ¬ (a.kind ≡ 31) → TriedSumOf g a b None
+  first-other n = record { sum = tt; tried = λ A. absurd (n A.a_is.shaped.kind) }
 
-  pub first-other : ¬ (a.kind ≡ 31) → TriedSumOf g a b (record { served = false; sum = s })
-  first-other n = record { sum = h; tried = λ A. absurd (n A.a_is.shaped.kind) }
-
-  pub second-other : ¬ (b.kind ≡ 31) → TriedSumOf g a b (record { served = false; sum = s })
-  second-other n = record { sum = h; tried = λ A. absurd (n A.b_is.shaped.kind) }
+  pub second-other : ¬ (b.kind ≡ 31) → TriedSumOf g a b None
+  second-other n = record { sum = tt; tried = λ A. absurd (n A.b_is.shaped.kind) }

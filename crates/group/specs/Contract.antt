@@ -3,10 +3,10 @@
 --   ideal S r D        its ideal
 --   NegativeAsked, NegativeOf      negative: the ideal of the result is I*
 --   SumAsked, SumIs, SumOf         sum, by_product: it is the reduced ideal of the product
---   TriedSumOf                     tried: the sum, and what the formulas say of two divisors of kind 31
+--   TriedSumOf                     tried: what there is is the sum, and what the formulas say of two divisors of kind 31
 --   ProductStarOf                  product_star: it is J*, for the product J
 --   ZeroClass r                    zero_class: kind 0, and no number
-use Rattle.std.specs.Prelude.{◌≡◌, ℕ, replicate}
+use Rattle.std.specs.Prelude.{◌≡◌, ℕ, replicate, Option, IfSome}
 use Rattle.ideal.specs.Ideal.{Product}
 use Rattle.ideal.specs.Reduced.{IsStar, IsReduced}
 use Rattle.divisor.specs.Kind.{Kind, IdealOf}
@@ -15,7 +15,6 @@ use Rattle.ground.specs.declared.Ground.{Ground}
 use Rattle.ground.specs.Ground.{Grounded}
 use Rattle.basis.specs.Divisor.{numbers_of, residues, BasisValue}
 use Rattle.basis.specs.declared.Divisor.{Divisor}
-use Rattle.usual.specs.declared.Tried.{Tried}
 use Rattle.usual.specs.Trial.{TriedOf}
 
 pub record IsDivisor {p : ℕ} (S : Setting p) (r : Divisor) : Type 0 where
@@ -48,9 +47,9 @@ SumIs {g} {a} {b} A r =
 abbrev pub SumOf : (g : Ground) (a b r : Divisor) → Type 0
 SumOf g a b r = (A : SumAsked g a b) → SumIs A r
 
--- what is tried of any two divisors: the sum, and what usual::sum_tried says of two divisors of kind 31
-pub record TriedSumOf (g : Ground) (a b : Divisor) (r : Tried) : Type 0 where
-  pub sum : SumOf g a b r.sum
+-- what is tried of any two divisors: a sum that there is, and what usual::sum_tried says of two divisors of kind 31
+pub record TriedSumOf (g : Ground) (a b : Divisor) (r : Option Divisor) : Type 0 where
+  pub sum : IfSome r (SumOf g a b)
   pub tried : TriedOf g a b r
 
 abbrev pub ProductStarOf : (g : Ground) (a b r : Divisor) → Type 0

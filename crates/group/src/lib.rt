@@ -5,7 +5,6 @@ ghost use Rattle.group.specs.Contract.{NegativeAsked, NegativeOf, SumAsked, SumO
 
 use basis::Divisor;
 use ground::Ground;
-use usual::Tried;
 
 // I*, for the ideal I of a.
 pub fn negative(g: Ground, a: Divisor) -> Divisor
@@ -18,43 +17,29 @@ pub fn negative(g: Ground, a: Divisor) -> Divisor
     star::star(g, &t, &d)
 }
 
-// The reduced ideal of the product of the ideals of a and b, and whether it is by formulas: these are tried for two divisors of kind 31, and else it is by the product.
-pub fn tried(g: Ground, a: Divisor, b: Divisor) -> Tried
+// The sum by formulas, if these serve: they are tried for two divisors of kind 31.
+pub fn tried(g: Ground, a: Divisor, b: Divisor) -> Option<Divisor>
     requires { SumAsked g a b }
     ensures { TriedSumOf g a b result }
 {
     if a.kind != 31 {
-        let s = by_product(g, a, b);
-        return Tried {
-            served: false,
-            sum: s,
-        };
+        return None;
     }
     if b.kind != 31 {
-        let s = by_product(g, a, b);
-        return Tried {
-            served: false,
-            sum: s,
-        };
+        return None;
     }
-    let t = usual::sum_tried(g, a, b);
-    if t.served {
-        return t;
-    }
-    let s = by_product(g, a, b);
-    Tried {
-        served: false,
-        sum: s,
-    }
+    usual::sum_tried(g, a, b)
 }
 
-// The reduced ideal of the product of the ideals of a and b.
+// The reduced ideal of the product of the ideals of a and b: by formulas if these serve, and else by the product.
 pub fn sum(g: Ground, a: Divisor, b: Divisor) -> Divisor
     requires { SumAsked g a b }
     ensures { SumOf g a b result }
 {
-    let t = tried(g, a, b);
-    t.sum
+    match tried(g, a, b) {
+        Some(s) => s,
+        None => by_product(g, a, b),
+    }
 }
 
 // The same by the product of the ideals. With the zero class the other one is the sum.

@@ -5,12 +5,11 @@
 ghost use Rattle.std.specs.Prelude.{◌≡◌, ◌<◌};
 ghost use Rattle.field.specs.Residue.{Z, el};
 ghost use Rattle.field.specs.Contract.{Is};
-ghost use Rattle.barrett.specs.Divider.{Divides};
 ghost use Rattle.barrett.specs.Contract.{dot₃};
 ghost use Rattle.matrix.specs.Matrix.{column_at, rows_of, MatrixBelow};
 ghost use Rattle.matrix.specs.Contract.{TwoColumns, Crossed, FourColumns, Coordinates, Cleared, TimesAsked, Times, RowReducedAsked, RowReducedOf};
 
-use barrett::Divider;
+use barrett::Modulus;
 
 // A column: its entries in the rows of 1, of x and of y.
 #[derive(Clone, Copy)]
@@ -43,41 +42,38 @@ pub fn rows(a: Column, b: Column, c: Column, d: Column, e: Column) -> [[u32; 5];
 }
 
 // The vector product of two columns.
-fn crossed(p: u32, by: Divider, a: Column, b: Column) -> Column
-    requires two_columns { TwoColumns p a b }
-    requires divides { Divides p by }
-    ensures { Crossed p a b result }
+fn crossed(modulus: Modulus, a: Column, b: Column) -> Column
+    requires { TwoColumns modulus.p a b }
+    ensures { Crossed modulus.p a b result }
 {
-    let one = barrett::cross(p, by, a.x, b.y, a.y, b.x);
-    let x = barrett::cross(p, by, a.y, b.one, a.one, b.y);
-    let y = barrett::cross(p, by, a.one, b.x, a.x, b.one);
+    let one = modulus.cross(a.x, b.y, a.y, b.x);
+    let x = modulus.cross(a.y, b.one, a.one, b.y);
+    let y = modulus.cross(a.one, b.x, a.x, b.one);
     Column { one, x, y }
 }
 
 // The scalar product of two columns.
-fn dotted(p: u32, by: Divider, a: Column, b: Column) -> u32
-    requires two_columns { TwoColumns p a b }
-    requires divides { Divides p by }
-    ensures { Is p result (dot₃ (Z p) (el p a.one) (el p b.one) (el p a.x) (el p b.x) (el p a.y) (el p b.y)) }
+fn dotted(modulus: Modulus, a: Column, b: Column) -> u32
+    requires { TwoColumns modulus.p a b }
+    ensures { Is modulus.p result (dot₃ (Z modulus.p) (el modulus.p a.one) (el modulus.p b.one) (el modulus.p a.x) (el modulus.p b.x) (el modulus.p a.y) (el modulus.p b.y)) }
 {
-    barrett::dot3(p, by, a.one, b.one, a.x, b.x, a.y, b.y)
+    modulus.dot3(a.one, b.one, a.x, b.x, a.y, b.y)
 }
 
 // z times the row-reduced form of m, z the determinant of its first three columns.
-pub fn cleared(p: u32, by: Divider, m: [[u32; 5]; 3]) -> [[u32; 5]; 3]
-    requires matrix_below { MatrixBelow p m }
-    requires divides { Divides p by }
-    ensures { Cleared p m result }
+pub fn cleared(modulus: Modulus, m: [[u32; 5]; 3]) -> [[u32; 5]; 3]
+    requires { MatrixBelow modulus.p m }
+    ensures { Cleared modulus.p m result }
 {
     let a = column_of(m, 0);
     let b = column_of(m, 1);
     let c = column_of(m, 2);
-    let bc = crossed(p, by, b, c);
-    let ca = crossed(p, by, c, a);
-    let ab = crossed(p, by, a, b);
-    let z = dotted(p, by, a, bc);
-    let d = coordinates(p, by, column_of(m, 3), bc, ca, ab);
-    let e = coordinates(p, by, column_of(m, 4), bc, ca, ab);
+    let bc = crossed(modulus, b, c);
+    let ca = crossed(modulus, c, a);
+    let ab = crossed(modulus, a, b);
+    let z = dotted(modulus, a, bc);
+    let d = coordinates(modulus, column_of(m, 3), bc, ca, ab);
+    let e = coordinates(modulus, column_of(m, 4), bc, ca, ab);
     rows(
         Column { one: z, x: 0, y: 0 },
         Column { one: 0, x: z, y: 0 },
@@ -88,25 +84,23 @@ pub fn cleared(p: u32, by: Divider, m: [[u32; 5]; 3]) -> [[u32; 5]; 3]
 }
 
 // The scalar products of v with three columns.
-fn coordinates(p: u32, by: Divider, v: Column, a: Column, b: Column, c: Column) -> Column
-    requires four_columns { FourColumns p v a b c }
-    requires divides { Divides p by }
-    ensures { Coordinates p v a b c result }
+fn coordinates(modulus: Modulus, v: Column, a: Column, b: Column, c: Column) -> Column
+    requires { FourColumns modulus.p v a b c }
+    ensures { Coordinates modulus.p v a b c result }
 {
-    let one = dotted(p, by, v, a);
-    let x = dotted(p, by, v, b);
-    let y = dotted(p, by, v, c);
+    let one = dotted(modulus, v, a);
+    let x = dotted(modulus, v, b);
+    let y = dotted(modulus, v, c);
     Column { one, x, y }
 }
 
 // The row-reduced form of a matrix, where c is z times this form and u the inverse of z.
-pub fn row_reduced(p: u32, by: Divider, c: [[u32; 5]; 3], u: u32) -> [[u32; 5]; 3]
-    requires row_reduced_asked { RowReducedAsked p c u }
-    requires divides { Divides p by }
-    ensures { RowReducedOf p c u result }
+pub fn row_reduced(modulus: Modulus, c: [[u32; 5]; 3], u: u32) -> [[u32; 5]; 3]
+    requires { RowReducedAsked modulus.p c u }
+    ensures { RowReducedOf modulus.p c u result }
 {
-    let d = times(p, by, column_of(c, 3), u);
-    let e = times(p, by, column_of(c, 4), u);
+    let d = times(modulus, column_of(c, 3), u);
+    let e = times(modulus, column_of(c, 4), u);
     rows(
         Column { one: 1, x: 0, y: 0 },
         Column { one: 0, x: 1, y: 0 },
@@ -117,13 +111,12 @@ pub fn row_reduced(p: u32, by: Divider, c: [[u32; 5]; 3], u: u32) -> [[u32; 5]; 
 }
 
 // u times a column.
-fn times(p: u32, by: Divider, v: Column, u: u32) -> Column
-    requires times_asked { TimesAsked p v u }
-    requires divides { Divides p by }
-    ensures { Times p v u result }
+fn times(modulus: Modulus, v: Column, u: u32) -> Column
+    requires { TimesAsked modulus.p v u }
+    ensures { Times modulus.p v u result }
 {
-    let one = barrett::mul(p, by, v.one, u);
-    let x = barrett::mul(p, by, v.x, u);
-    let y = barrett::mul(p, by, v.y, u);
+    let one = modulus.mul(v.one, u);
+    let x = modulus.mul(v.x, u);
+    let y = modulus.mul(v.y, u);
     Column { one, x, y }
 }

@@ -2,11 +2,13 @@
 --   denied, granted        what a test of a negation says
 --   not_short, not_typical-first, not_typical-second       where a condition of the request fails, it is not
 --   served-at, tried-served        where all hold, the formulas decide
+--   serves-some, serves-none       whether there is a sum says whether they serve
 use mathlib.Core.Path.{◌≡◌, refl, sym, ◌∙◌, ap, subst}
 use mathlib.Core.Bool.{Bool, true, false, not, true≢false, false≢true}
 use mathlib.Core.List.{List}
 use Prim.Native.Nat.{ℕ, ◌<◌, ◌≤◌}
 use native.Mathlib.Omega.{arith}
+use Rattle.std.specs.Prelude.{Option, Some, None, is_some}
 use Rattle.algebra.specs.Ring.{CommRing}
 use Rattle.ideal.specs.Ideal.{SameIdeal, Product}
 use Rattle.ideal.specs.Reduced.{IsReduced}
@@ -20,8 +22,7 @@ use Rattle.divisor.specs.Kind.{Kind, k31, IdealOf, IsBasis}
 use Rattle.ground.specs.declared.Ground.{Ground}
 use Rattle.basis.specs.declared.Divisor.{Divisor}
 use Rattle.basis.specs.Divisor.{numbers_of, residues, BasisValue}
-use Rattle.usual.specs.declared.Tried.{Tried}
-use Rattle.usual.specs.Trial.{TriedAsked, TriedOf, TriedIs, HasPivots, Summed, product_on}
+use Rattle.usual.specs.Trial.{TriedAsked, TriedOf, TriedIs, HasPivots, Summed, Untypical, product_on}
 use Rattle.group.specs.Contract.{SumAsked}
 use Rattle.record.specs.Curve.{modulus, equation, limit, AcceptedCurve, accepted_prime, accepted_limit}
 use Rattle.record.specs.Divisor.{number_at}
@@ -45,17 +46,17 @@ pub granted : (b : Bool) → not b ≡ false → b ≡ true
 granted true e = refl
 granted false e = absurd (true≢false e)
 
-module _ {g : Ground} {x y : Divisor} (z : Divisor) where
-  unserved : ((c : List ℕ) → On c g → (a b : List ℕ) → GivenOn c a x → GivenOn c b y → ¬ Serves c a b) → ServedOf g x y (record { served = false; sum = z })
-  unserved n c o a b v u = record { yes = λ f. absurd (false≢true f); no = λ _. n c o a b v u }
+module _ {g : Ground} {x y : Divisor} where
+  unserved : ((c : List ℕ) → On c g → (a b : List ℕ) → GivenOn c a x → GivenOn c b y → ¬ Serves c a b) → ServedOf g x y None
+  unserved n c o a b v u = record { yes = tt; no = n c o a b v u }
 
-  pub not_short : ¬ ShortGround g → ServedOf g x y (record { served = false; sum = z })
+  pub not_short : ¬ ShortGround g → ServedOf g x y None
   not_short n = unserved (λ c o a b v u s. n (short_back o s.short))
 
-  pub not_typical-first : ¬ TypicalValue x → ServedOf g x y (record { served = false; sum = z })
+  pub not_typical-first : ¬ TypicalValue x → ServedOf g x y None
   not_typical-first n = unserved (λ c o a b v u s. n (typical-back c a x (accepted_limit c o.accepted) v s.a_typical))
 
-  pub not_typical-second : ¬ TypicalValue y → ServedOf g x y (record { served = false; sum = z })
+  pub not_typical-second : ¬ TypicalValue y → ServedOf g x y None
   not_typical-second n = unserved (λ c o a b v u s. n (typical-back c b y (accepted_limit c o.accepted) u s.b_typical))
 
 module _ {c : List ℕ} {g : Ground} (o : On c g) {a b : List ℕ} {x y : Divisor} (v : GivenOn c a x) (u : GivenOn c b y) (h : Given31 c a x) (h' : Given31 c b y) where
@@ -92,11 +93,11 @@ module _ {c : List ℕ} {g : Ground} (o : On c g) {a b : List ℕ} {x y : Diviso
         equal = λ q e. f.equal (same-there h h' q) (pivot_double-is h h' ∙ e);
       }
 
-  module _ {t : Tried} (T : TriedIs asked t) (short : ShortGround g) (n : ¬ (x.n2 ≡ 0)) (n' : ¬ (y.n2 ≡ 0)) where
-    summed : Summed asked t.sum → (w : List ℕ) × IsSum c a b w × GivenOn c w t.sum
+  module _ (short : ShortGround g) (n : ¬ (x.n2 ≡ 0)) (n' : ¬ (y.n2 ≡ 0)) where
+    summed : {r : Divisor} → Summed asked r → (w : List ℕ) × IsSum c a b w × GivenOn c w r
     summed s = reduced-made o product_is (record { kind = k31; based = s.based }, s.reduced)
 
-    serves : Summed asked t.sum → (w : List ℕ) × IsSum c a b w × GivenOn c w t.sum → Serves c a b
+    serves : {r : Divisor} → Summed asked r → (w : List ℕ) × IsSum c a b w × GivenOn c w r → Serves c a b
     serves s (w, i, q) =
         record {
           short = short-there o short;
@@ -111,7 +112,7 @@ module _ {c : List ℕ} {g : Ground} (o : On c g) {a b : List ℕ} {x y : Diviso
             typical-there (given_31 (accepted_limit c A) q s.based.shaped.kind)
             (λ e. s.typical (ap (el p) e ∙ el-zero p))
 
-    refused : t.served ≡ false → ¬ Serves c a b
+    refused : Untypical asked → ¬ Serves c a b
     refused f s = go (sum_record c A a b v.accepted u.accepted)
       where
         go : (w : List ℕ) × IsSum c a b w → ⊥
@@ -124,7 +125,7 @@ module _ {c : List ℕ} {g : Ground} (o : On c g) {a b : List ℕ} {x y : Diviso
             at (κ, r) =
                 typical.second
                 (el_inj p _ 0 (r31.below 2 (omega arith)) (omega (arith, prime-large p (accepted_prime c A)))
-                (T.no f (pivots-back s.pivots) k31 (number_at p w) r31.basis reduced ∙ sym (el-zero p)))
+                (f (pivots-back s.pivots) k31 (number_at p w) r31.basis reduced ∙ sym (el-zero p)))
               where
                 r31 : Reads p (equation c) k31 w
                 r31 = subst (λ κ. Reads p (equation c) κ w) (same_kind w κ k31 r.kind typical.kind) r
@@ -133,15 +134,31 @@ module _ {c : List ℕ} {g : Ground} (o : On c g) {a b : List ℕ} {x y : Diviso
                 reduced =
                     reduced-same (poles_on c A) (same_sym (Ring c) product_is) (ideal_reads p (equation c) k31 w typical.kind) (reduced_on c A w i)
 
-    pub served-at : ServedOn c a b t
-    served-at = record { yes = λ f. let m = summed (T.yes f) in (serves (T.yes f) m, m); no = refused }
+    pub served-at : (t : Option Divisor) → TriedIs asked t → ServedOn c a b t
+    served-at None T = record { yes = tt; no = refused T.no }
+    served-at (Some r) T = record { yes = let m = summed T.yes in (serves T.yes m, m); no = tt }
 
-pub tried-served : {g : Ground} {x y : Divisor} {t : Tried} → TriedOf g x y t → ShortGround g → TypicalValue x → TypicalValue y → ServedOf g x y t
+pub tried-served : {g : Ground} {x y : Divisor} {t : Option Divisor} → TriedOf g x y t → ShortGround g → TypicalValue x → TypicalValue y → ServedOf g x y t
 tried-served {g} {x} {y} {t} T s tx ty c o a b v u =
-    served-at o v u h h' (subst (λ k. TriedOf k x y t) (ground-is o) T (asked o v u h h')) s tx.second ty.second
+    served-at o v u h h' s tx.second ty.second t (subst (λ k. TriedOf k x y t) (ground-is o) T (asked o v u h h'))
   where
     h : Given31 c a x
     h = given_31 (accepted_limit c o.accepted) v tx.kind
 
     h' : Given31 c b y
     h' = given_31 (accepted_limit c o.accepted) u ty.kind
+
+module _ {c a b : List ℕ} {t : Option Divisor} where
+  pub serves-some : ServedOn c a b t → is_some t ≡ true → Serves c a b
+  serves-some = go t
+    where
+      go : (t : Option Divisor) → ServedOn c a b t → is_some t ≡ true → Serves c a b
+      go None S e = absurd (false≢true e)
+      go (Some r) S e = S.yes.0
+
+  pub serves-none : ServedOn c a b t → is_some t ≡ false → ¬ Serves c a b
+  serves-none = go t
+    where
+      go : (t : Option Divisor) → ServedOn c a b t → is_some t ≡ false → ¬ Serves c a b
+      go None S e = S.no
+      go (Some r) S e = absurd (true≢false e)

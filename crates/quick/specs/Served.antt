@@ -1,12 +1,11 @@
 -- Where the quick sum is served by the formulas, by value and in bytes.
 --   ShortGround g          the ground of a curve with c5, c6 and c8 zero, and p above 3
 --   TypicalValue x         a divisor of kind 31 with f2 not zero
---   ServedOn c a b r       r says whether the formulas serve for the records a and b on the curve c; if they do it has the sum
+--   ServedOn c a b r       the formulas serve for the records a and b on the curve c exactly where r has a value, and this is the sum
 --   ServedOf g x y r       served: … for the records of x and y, on each curve with the ground g
-use Rattle.std.specs.Prelude.{◌≡◌, true, false, List, ℕ, ◌<◌, get_or}
+use Rattle.std.specs.Prelude.{◌≡◌, List, ℕ, ◌<◌, get_or, Option, IfSome, IfNone}
 use Rattle.ground.specs.declared.Ground.{Ground}
 use Rattle.basis.specs.declared.Divisor.{Divisor}
-use Rattle.usual.specs.declared.Tried.{Tried}
 use Rattle.reader.specs.Reading.{GivenOn}
 use Rattle.calls.specs.Class.{IsSum}
 use Rattle.calls.specs.Quick.{Serves}
@@ -22,9 +21,9 @@ pub record TypicalValue (x : Divisor) : Type 0 where
   pub kind : x.kind ≡ 31
   pub second : ¬ (x.n2 ≡ 0)
 
-pub record ServedOn (c a b : List ℕ) (r : Tried) : Type 0 where
-  pub yes : r.served ≡ true → Serves c a b × ((w : List ℕ) × IsSum c a b w × GivenOn c w r.sum)
-  pub no : r.served ≡ false → ¬ Serves c a b
+pub record ServedOn (c a b : List ℕ) (r : Option Divisor) : Type 0 where
+  pub yes : IfSome r (λ s. Serves c a b × ((w : List ℕ) × IsSum c a b w × GivenOn c w s))
+  pub no : IfNone r (¬ Serves c a b)
 
-abbrev pub ServedOf : (g : Ground) (x y : Divisor) (r : Tried) → Type 0
+abbrev pub ServedOf : (g : Ground) (x y : Divisor) (r : Option Divisor) → Type 0
 ServedOf g x y r = OnCurves g (λ c. (a b : List ℕ) → GivenOn c a x → GivenOn c b y → ServedOn c a b r)

@@ -7,7 +7,6 @@ ghost use Rattle.quick.specs.Served.{ShortGround, TypicalValue, ServedOf};
 
 use basis::Divisor;
 use ground::Ground;
-use usual::Tried;
 
 // Is p above 3, and are c5, c6 and c8 zero?
 fn short_form(g: Ground) -> bool
@@ -41,28 +40,19 @@ fn is_typical(x: Divisor) -> bool
     true
 }
 
-// Whether the formulas serve, and the sum if they do.
-pub fn served(g: Ground, x: Divisor, y: Divisor) -> Tried
+// The sum by formulas, if these serve under the request's conditions.
+pub fn served(g: Ground, x: Divisor, y: Divisor) -> Option<Divisor>
     requires { SumAsked g x y }
     ensures { ServedOf g x y result }
 {
     if !short_form(g) {
-        return Tried {
-            served: false,
-            sum: x,
-        };
+        return None;
     }
     if !is_typical(x) {
-        return Tried {
-            served: false,
-            sum: x,
-        };
+        return None;
     }
     if !is_typical(y) {
-        return Tried {
-            served: false,
-            sum: x,
-        };
+        return None;
     }
     group::tried(g, x, y)
 }

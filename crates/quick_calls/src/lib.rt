@@ -17,11 +17,10 @@ fn added(g: Ground, x: Divisor, y: Divisor) -> Divisor
     requires { SumAsked g x y }
     ensures { AddedOf g x y result }
 {
-    let t = quick::served(g, x, y);
-    if t.served {
-        return t.sum;
+    match quick::served(g, x, y) {
+        Some(s) => s,
+        None => group::sum(g, x, y),
     }
-    group::sum(g, x, y)
 }
 
 // The sum of two divisors in bytes, or the number of the first cause of refusal.
@@ -96,7 +95,7 @@ pub fn serves(curve: &[u8], a: &[u8], b: &[u8]) -> i32
             match next {
                 TwoAnswer::Two(x, y) => {
                     let t = quick::served(g, x, y);
-                    if t.served {
+                    if t.is_some() {
                         return 1;
                     }
                     0

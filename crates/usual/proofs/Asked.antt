@@ -5,6 +5,7 @@
 use mathlib.Core.Path.{◌≡◌, sym, subst}
 use mathlib.Core.Logic.{inl, inr}
 use mathlib.Core.List.{List}
+use Rattle.std.specs.Prelude.{Option}
 use Prim.Native.Nat.{ℕ, zero, suc, ◌<◌}
 use native.Mathlib.Omega.{arith}
 use Rattle.divisor.specs.Kind.{k31}
@@ -16,7 +17,6 @@ use Rattle.matrix.specs.declared.Column.{Column}
 use Rattle.matrix.specs.Matrix.{column_at, rows_of, ColumnBelow, MatrixBelow}
 use Rattle.entries.specs.declared.Lower.{Lower}
 use Rattle.entries.specs.Contract.{lower_of, NumbersBelow, LowerBelow, SumMatrix, DoubleMatrix}
-use Rattle.usual.specs.declared.Tried.{Tried}
 use Rattle.usual.specs.Contract.{MatrixOf, SolvedOf}
 use Rattle.usual.specs.Trial.{TriedOf}
 use Rattle.usual.proofs.Served as served
@@ -51,7 +51,7 @@ pub matrix_below : {p : ℕ} {o : Lower} {a b : Divisor} {r : List (List ℕ)} �
 matrix_below small (inl (_, s)) = double-below small s
 matrix_below small (inr (_, s)) = sum_below small s
 
-module _ {g : Ground} {a b : Divisor} {o : Lower} (e : o ≡ lower_of g.cube) {m : List (List ℕ)} {r : Tried} where
+module _ {g : Ground} {a b : Divisor} {o : Lower} (e : o ≡ lower_of g.cube) {m : List (List ℕ)} {r : Option Divisor} where
   sum-tried : ¬ (numbers_of a ≡ numbers_of b) → SumMatrix g.p a b m → SolvedOf g.p o a m r → TriedOf g a b r
   sum-tried d M h A = served.tried-sum A d M (subst (λ l. SolvedOf g.p l a m r) e h)
 
@@ -59,6 +59,9 @@ module _ {g : Ground} {a b : Divisor} {o : Lower} (e : o ≡ lower_of g.cube) {m
   double-tried d M h A =
       served.tried-double A d (subst (λ l. DoubleMatrix g.p l a m) e M) (subst (λ l. SolvedOf g.p l a m r) e h)
 
-  pub matrix_tried : MatrixOf g.p o a b m → SolvedOf g.p o a m r → TriedOf g a b r
-  matrix_tried (inl (d, M)) h = double-tried d M h
-  matrix_tried (inr (d, M)) h = sum-tried d M h
+  tried-at : MatrixOf g.p o a b m → SolvedOf g.p o a m r → TriedOf g a b r
+  tried-at (inl (d, M)) h = double-tried d M h
+  tried-at (inr (d, M)) h = sum-tried d M h
+
+  pub matrix_tried : {p : ℕ} → p ≡ g.p → MatrixOf p o a b m → SolvedOf p o a m r → TriedOf g a b r
+  matrix_tried q M h = tried-at (subst (λ p. MatrixOf p o a b m) q M) (subst (λ p. SolvedOf p o a m r) q h)

@@ -6,7 +6,6 @@
 --   form-below             the columns of the row-reduced form are below p
 use mathlib.Core.Path.{◌≡◌, refl, sym, ◌∙◌, ap, subst}
 use mathlib.Core.Logic.{◌⊎◌, inl, inr}
-use mathlib.Core.Bool.{true, false, true≢false, false≢true}
 use mathlib.Core.List.{List, [], ◌∷◌}
 use Prim.Native.Nat.{ℕ, zero, suc, ◌≤◌, ◌<◌}
 use native.Mathlib.Omega.{arith}
@@ -37,7 +36,7 @@ use Rattle.entries.specs.declared.Lower.{Lower}
 use Rattle.formulas.specs.Contract.{FactorsOf, InversesOf}
 use Rattle.formulas.specs.declared.Factors.{Factors}
 use Rattle.formulas.specs.declared.Inverses.{Inverses}
-use Rattle.usual.specs.Contract.{IsLower, us_of, vs_of, CompleteOf, Pivoted, SolvedOf}
+use Rattle.usual.specs.Contract.{IsLower, us_of, vs_of, CompleteOf, Pivoted, Solved, Unsolved}
 use Rattle.usual.proofs.Equate.{five, six}
 
 pub record Front (p : ℕ) (m c : List (List ℕ)) (z : ℕ) (d e : Column) : Type 0 where
@@ -150,8 +149,8 @@ module _ (p : ℕ) (prime : Prime p) (o : Lower) (n : Divisor) (m c : List (List
   abbrev K : Field
   K = F p prime
 
-  pivots-zero : z ≡ 0 → SolvedOf p o n m (record { served = false; sum = n })
-  pivots-zero h = record { yes = λ f. absurd (false≢true f); no = λ _. inl (sym W.z_is.is ∙ ap (el p) h ∙ el-zero p) }
+  pivots-zero : z ≡ 0 → Unsolved p o n m
+  pivots-zero h = inl (sym W.z_is.is ∙ ap (el p) h ∙ el-zero p)
 
   module _ (f : Factors) (Y : FactorsOf p o n.n2 z d.x d.y e.y f) where
     module _ (z-nonzero : ¬ (el p z ≡ R.zero)) where
@@ -174,19 +173,14 @@ module _ (p : ℕ) (prime : Prime p) (o : Lower) (n : Divisor) (m c : List (List
           t_2 : el p e.y ≡ R.mul (el p z) (t 2)
           t_2 = sym (times_columns K _ _ _ t (residues_of p e) _ (el p z) full ht W.e_is 2 (omega arith))
 
-      second-zero : el p f.y ≡ R.zero → SolvedOf p o n m (record { served = false; sum = n })
+      second-zero : el p f.y ≡ R.zero → Unsolved p o n m
       second-zero h =
-          record {
-            yes = λ f. absurd (false≢true f);
-            no =
-                λ _.
-                inr (
-                  record { pivots = full; s = over d; t = over e; s_is = over_is d _ W.d_is; t_is = over_is e _ W.e_is },
-                  λ C O.
-                      no-zero_divisors K (R.mul (el p z) (el p z)) _ (sym (factor-is (over d) (over e) (over_is d _ W.d_is) (over_is e _ W.e_is) C O) ∙ h)
-                      (λ f. z-nonzero (no-zero_divisors K (el p z) (el p z) f z-nonzero)),
-                );
-          }
+          inr (
+            record { pivots = full; s = over d; t = over e; s_is = over_is d _ W.d_is; t_is = over_is e _ W.e_is },
+            λ C O.
+                no-zero_divisors K (R.mul (el p z) (el p z)) _ (sym (factor-is (over d) (over e) (over_is d _ W.d_is) (over_is e _ W.e_is) C O) ∙ h)
+                (λ f. z-nonzero (no-zero_divisors K (el p z) (el p z) f z-nonzero)),
+          )
         where
           over : Column → ℕ → R.Car
           over v j = R.mul (residues_of p v j) (K.inv (el p z))
@@ -195,10 +189,10 @@ module _ (p : ℕ) (prime : Prime p) (o : Lower) (n : Divisor) (m c : List (List
               → Combines R (column_residues p m 0) (column_residues p m 1) (column_residues p m 2) (over v) R.one w
           over_is v w h i = unscaled R (el p z) (K.inv (el p z)) (w i) _ _ _ _ _ _ _ _ _ (h i) (K.mul_inv (el p z) z-nonzero) refl refl refl
 
-    pub unserved : f.zy ≡ 0 → SolvedOf p o n m (record { served = false; sum = n })
+    pub unserved : f.zy ≡ 0 → Unsolved p o n m
     unserved h = go (none_or_some z)
       where
-        go : (z ≡ 0) ⊎ (0 < z) → SolvedOf p o n m (record { served = false; sum = n })
+        go : (z ≡ 0) ⊎ (0 < z) → Unsolved p o n m
         go (inl none) = pivots-zero none
         go (inr some) =
             let nz : ¬ (el p z ≡ R.zero) = el_pos p z some W.z_is.below in
@@ -246,17 +240,12 @@ module _ (p : ℕ) (prime : Prime p) (o : Lower) (n : Divisor) (m c : List (List
             factor-is nonzero (residues_of p s) (residues_of p t) pivoted.s_is pivoted.t_is (some-curve p o) (some-lower p o)
             ∙ ap (R.mul (R.mul (el p z) (el p z))) (sym (M.second (some-curve p o) (some-lower p o)))
 
-        pub served : SolvedOf p o n m (record { served = true; sum = sum })
+        pub served : Solved p o n m sum
         unfolding pivoted
         served =
             record {
-              yes =
-                  λ _.
-                  record {
-                    pivoted = pivoted;
-                    shaped = M.shaped;
-                    typical = λ f. y-nonzero (y_is ∙ ap (R.mul (R.mul (el p z) (el p z))) f ∙ mul-zero R _);
-                    equations = λ C O. M.equations C O (unit-of R (el p z) (el p i.one) (el p f.y) (el p i.two) (residues p sum 2) one_is y_is (I.two_is (el p z) Y.zy_is.is Y.zzz_is.is product-nonzero));
-                  };
-              no = λ f. absurd (true≢false f);
+              pivoted = pivoted;
+              shaped = M.shaped;
+              typical = λ f. y-nonzero (y_is ∙ ap (R.mul (R.mul (el p z) (el p z))) f ∙ mul-zero R _);
+              equations = λ C O. M.equations C O (unit-of R (el p z) (el p i.one) (el p f.y) (el p i.two) (residues p sum 2) one_is y_is (I.two_is (el p z) Y.zy_is.is Y.zzz_is.is product-nonzero));
             }

@@ -4,6 +4,7 @@
 use mathlib.Core.Path.{◌≡◌, sym, ◌∙◌, ap, subst}
 use mathlib.Core.Logic.{inl, inr}
 use mathlib.Core.List.{List}
+use Rattle.std.specs.Prelude.{Option, Some, None}
 use Prim.Native.Nat.{ℕ}
 use Rattle.algebra.specs.Ring.{CommRing, Field, ops}
 use Rattle.algebra.proofs.Laws.{one-mul}
@@ -32,9 +33,8 @@ use Rattle.matrix.specs.declared.Column.{Column}
 use Rattle.matrix.specs.Matrix.{rows_of, residues_of}
 use Rattle.matrix.specs.Contract.{Combines}
 use Rattle.entries.specs.Contract.{lower_of, SumMatrix, DoubleMatrix}
-use Rattle.usual.specs.declared.Tried.{Tried}
 use Rattle.usual.specs.Contract.{us_of, vs_of, Pivoted, Solved, Unsolved, SolvedOf}
-use Rattle.usual.specs.Trial.{TriedAsked, curve_on, product_on, HasPivots, Summed, TriedIs}
+use Rattle.usual.specs.Trial.{TriedAsked, curve_on, product_on, HasPivots, Summed, Untypical, TriedIs}
 use Rattle.usual.proofs.Matrices.{lower-is, Columns, sum_columns, double_columns}
 
 solves : (R : CommRing) (a b c s d : ℕ → R.Car) → Combines R a b c s R.one d → Solves R a b c d s
@@ -66,32 +66,33 @@ module _ {g : Ground} {a b : Divisor} (A : TriedAsked g a b) where
       → Solves R (residues_of p ca) (residues_of p cb) (residues_of p cc) (residues_of p cd) s → Solves R (residues_of p ca) (residues_of p cb) (residues_of p cc) (residues_of p ce) t
       → Type61 P (product_on A) (cubic C (us_of p a s)) (quartic C (vs_of p a t))
 
-  module _ {ca cb cc cd ce : Column} {m : List (List ℕ)} {r : Tried} (rows : m ≡ rows_of ca cb cc cd ce) (type61 : OfType61 ca cb cc cd ce)
+  module _ {ca cb cc cd ce : Column} {m : List (List ℕ)} (rows : m ≡ rows_of ca cb cc cd ce) (type61 : OfType61 ca cb cc cd ce)
       (there : ¬ (determinant (ops R) (residues_of p ca) (residues_of p cb) (residues_of p cc) ≡ R.zero) → HasPivots A)
       (back : HasPivots A → ¬ (determinant (ops R) (residues_of p ca) (residues_of p cb) (residues_of p cc) ≡ R.zero)) where
-    tried-at : SolvedOf p (lower_of g.cube) a (rows_of ca cb cc cd ce) r → TriedIs A r
-    tried-at h = record { yes = λ e. served (h.yes e); no = λ e. refused (h.no e) }
+    shape : (q : Pivoted p (rows_of ca cb cc cd ce)) → Type61 P (product_on A) (cubic C (us_of p a q.s)) (quartic C (vs_of p a q.t))
+    shape q = type61 q.pivots q.s q.t (solves R _ _ _ q.s _ q.s_is) (solves R _ _ _ q.t _ q.t_is)
+
+    summed : {s : Divisor} → Solved p (lower_of g.cube) a (rows_of ca cb cc cd ce) s → Summed A s
+    summed {s} v = record { pivots = there v.pivoted.pivots; based = record { shaped = v.shaped; basis = made.0 }; typical = v.typical; reduced = made.1 }
       where
-        shape : (q : Pivoted p (rows_of ca cb cc cd ce)) → Type61 P (product_on A) (cubic C (us_of p a q.s)) (quartic C (vs_of p a q.t))
-        shape q = type61 q.pivots q.s q.t (solves R _ _ _ q.s _ q.s_is) (solves R _ _ _ q.t _ q.t_is)
+        made : IsBasis C k31 (residues p s) × IsReduced P (product_on A) (IdealOf C k31 (residues p s))
+        made =
+            type61_record K C S.nonzero (us_of p a v.pivoted.s) (vs_of p a v.pivoted.t) (residues p s) (shape v.pivoted)
+            (v.equations C (lower-is A.grounded.ready.cube)) v.typical
 
-        served : Solved p (lower_of g.cube) a (rows_of ca cb cc cd ce) r.sum → Summed A r.sum
-        served v = record { pivots = there v.pivoted.pivots; based = record { shaped = v.shaped; basis = made.0 }; typical = v.typical; reduced = made.1 }
-          where
-            made : IsBasis C k31 (residues p r.sum) × IsReduced P (product_on A) (IdealOf C k31 (residues p r.sum))
-            made =
-                type61_record K C S.nonzero (us_of p a v.pivoted.s) (vs_of p a v.pivoted.t) (residues p r.sum) (shape v.pivoted)
-                (v.equations C (lower-is A.grounded.ready.cube)) v.typical
+    untypical : Unsolved p (lower_of g.cube) a (rows_of ca cb cc cd ce) → Untypical A
+    untypical (inl z) f κ n basis reduced = absurd (back f z)
+    untypical (inr (q, z)) f κ n basis reduced =
+        (type61_second K C S.nonzero (us_of p a q.s) (vs_of p a q.t) (shape q) κ n basis reduced).1 ∙ z C (lower-is A.grounded.ready.cube)
 
-        refused : Unsolved p (lower_of g.cube) a (rows_of ca cb cc cd ce) → HasPivots A → (κ : Kind) (n : ℕ → R.Car) → IsBasis C κ n → IsReduced P (product_on A) (IdealOf C κ n) → n 2 ≡ R.zero
-        refused (inl z) f κ n basis reduced = absurd (back f z)
-        refused (inr (q, z)) f κ n basis reduced =
-            (type61_second K C S.nonzero (us_of p a q.s) (vs_of p a q.t) (shape q) κ n basis reduced).1 ∙ z C (lower-is A.grounded.ready.cube)
+    tried-at : (r : Option Divisor) → SolvedOf p (lower_of g.cube) a (rows_of ca cb cc cd ce) r → TriedIs A r
+    tried-at None h = record { yes = h.yes; no = untypical h.no }
+    tried-at (Some s) h = record { yes = summed h.yes; no = h.no }
 
-    pub tried-from : SolvedOf p (lower_of g.cube) a m r → TriedIs A r
-    tried-from h = tried-at (subst (λ n. SolvedOf p (lower_of g.cube) a n r) rows h)
+    pub tried-from : {r : Option Divisor} → SolvedOf p (lower_of g.cube) a m r → TriedIs A r
+    tried-from {r} h = tried-at r (subst (λ n. SolvedOf p (lower_of g.cube) a n r) rows h)
 
-  pub tried-sum : {m : List (List ℕ)} {r : Tried} → ¬ (numbers_of a ≡ numbers_of b) → SumMatrix p a b m → SolvedOf p (lower_of g.cube) a m r → TriedIs A r
+  pub tried-sum : {m : List (List ℕ)} {r : Option Divisor} → ¬ (numbers_of a ≡ numbers_of b) → SumMatrix p a b m → SolvedOf p (lower_of g.cube) a m r → TriedIs A r
   tried-sum d M =
       tried-from M.rows
       (λ full s t. sum_type61 K C S.nonzero (residues p a) (residues p b) A.a_is.basis A.b_is.basis w.a_is w.b_is w.c_is full _ _ s t w.d_is w.e_is)
@@ -101,7 +102,7 @@ module _ {g : Ground} {a b : Divisor} (A : TriedAsked g a b) where
       w : Columns p C b (member C k31 (residues p a)) (difference (ops R) (residues p a) (residues p b)) M.a M.b M.c M.d M.e
       w = sum_columns p C a b M
 
-  pub tried-double : {m : List (List ℕ)} {r : Tried} → numbers_of a ≡ numbers_of b → DoubleMatrix p (lower_of g.cube) a m → SolvedOf p (lower_of g.cube) a m r → TriedIs A r
+  pub tried-double : {m : List (List ℕ)} {r : Option Divisor} → numbers_of a ≡ numbers_of b → DoubleMatrix p (lower_of g.cube) a m → SolvedOf p (lower_of g.cube) a m r → TriedIs A r
   tried-double e M =
       tried-from M.rows
       (λ full s t hs ht.

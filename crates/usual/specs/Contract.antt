@@ -7,8 +7,8 @@
 --   Pivoted p m            the determinant of the first three columns of m is not zero, and s and t are the last two of its row-reduced form
 --   Solved p o n m r       … and r is the divisor of the formulas, with f2 not zero
 --   Unsolved p o n m       the determinant is zero, or f2 is
---   SolvedOf               solved: the one where it serves, and the other where it does not
-use Rattle.std.specs.Prelude.{◌≡◌, true, false, ◌⊎◌, List, ℕ, ◌<◌}
+--   SolvedOf               solved: the one where there is a sum, and the other where there is none
+use Rattle.std.specs.Prelude.{◌≡◌, ◌⊎◌, List, ℕ, ◌<◌, Option, IfSome, IfNone}
 use Rattle.algebra.specs.Ring.{ops}
 use Rattle.prime.specs.Prime.{Prime}
 use Rattle.field.specs.Residue.{Z, el}
@@ -24,7 +24,6 @@ use Rattle.matrix.specs.Matrix.{ColumnBelow, MatrixBelow, residues_of}
 use Rattle.matrix.specs.Contract.{Combines, column_residues}
 use Rattle.entries.specs.declared.Lower.{Lower}
 use Rattle.entries.specs.Contract.{NumbersBelow, LowerBelow, SumMatrix, DoubleMatrix}
-use Rattle.usual.specs.declared.Tried.{Tried}
 
 pub record IsLower (p : ℕ) (C : Curve (Z p)) (o : Lower) : Type 0 where
   pub n6_is : el p o.n6 ≡ (Z p).neg C.c3
@@ -88,6 +87,6 @@ Unsolved p o n m =
     ⊎ ((P : Pivoted p m)
     × ((C : Curve (Z p)) → IsLower p C o → F2-of (ops (Z p)) C.a0 (c-of C) (us_of p n P.s) (vs_of p n P.t) ≡ (Z p).zero))
 
-pub record SolvedOf (p : ℕ) (o : Lower) (n : Divisor) (m : List (List ℕ)) (r : Tried) : Type 0 where
-  pub yes : r.served ≡ true → Solved p o n m r.sum
-  pub no : r.served ≡ false → Unsolved p o n m
+pub record SolvedOf (p : ℕ) (o : Lower) (n : Divisor) (m : List (List ℕ)) (r : Option Divisor) : Type 0 where
+  pub yes : IfSome r (Solved p o n m)
+  pub no : IfNone r (Unsolved p o n m)

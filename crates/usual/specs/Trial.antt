@@ -2,9 +2,11 @@
 --   TriedAsked g a b       two divisors of kind 31 that are bases on the curve of the ground g
 --   curve_on, product_on   its curve, and the product of their ideals
 --   HasPivots A            the determinant of the first three columns is not zero: that for the sum, and that for the double where the numbers of a and b are the same
---   TriedIs A r            tried: where it serves there are pivots, and the sum is of kind 31 with f2 not zero; where not and there are pivots, the f2 of the sum is zero
---   TriedOf g a b r
-use Rattle.std.specs.Prelude.{◌≡◌, true, false, ℕ}
+--   Summed A r             r is the sum, of kind 31 with f2 not zero, and there are pivots
+--   Untypical A            where there are pivots, the f2 of the sum is zero
+--   TriedIs A r            tried: r is the sum, if the formulas serve, and where they do not the sum is untypical
+--   TriedOf g a b r        … wherever it may be tried
+use Rattle.std.specs.Prelude.{◌≡◌, ℕ, Option, IfSome, IfNone}
 use Rattle.field.specs.Residue.{Z}
 use Rattle.ideal.specs.Ideal.{Product}
 use Rattle.ideal.specs.Reduced.{IsReduced}
@@ -16,7 +18,6 @@ use Rattle.ground.specs.declared.Ground.{Ground}
 use Rattle.ground.specs.Ground.{Grounded}
 use Rattle.basis.specs.declared.Divisor.{Divisor}
 use Rattle.basis.specs.Divisor.{numbers_of, residues, BasisValue}
-use Rattle.usual.specs.declared.Tried.{Tried}
 
 pub record TriedAsked (g : Ground) (a b : Divisor) : Type 0 where
   pub grounded : Grounded g
@@ -34,17 +35,19 @@ module _ {g : Ground} {a b : Divisor} (A : TriedAsked g a b) where
     pub different : ¬ (numbers_of a ≡ numbers_of b) → ¬ (pivot_sum (Z g.p) (residues g.p a) (residues g.p b) ≡ (Z g.p).zero)
     pub equal : numbers_of a ≡ numbers_of b → ¬ (pivot_double curve_on (residues g.p a) ≡ (Z g.p).zero)
 
-  -- the sum is of kind 31 with f2 not zero
   pub record Summed (r : Divisor) : Type 0 where
     pub pivots : HasPivots
     pub based : BasisValue g.p curve_on k31 r
     pub typical : ¬ (residues g.p r 2 ≡ (Z g.p).zero)
     pub reduced : IsReduced (poles_of A.grounded.ready.setting) product_on (IdealOf curve_on k31 (residues g.p r))
 
-  pub record TriedIs (r : Tried) : Type 0 where
-    pub yes : r.served ≡ true → Summed r.sum
-    pub no : r.served ≡ false → HasPivots → (κ : Kind) (n : ℕ → (Z g.p).Car) → IsBasis curve_on κ n
-        → IsReduced (poles_of A.grounded.ready.setting) product_on (IdealOf curve_on κ n) → n 2 ≡ (Z g.p).zero
+  abbrev pub Untypical : Type 0
+  Untypical =
+      HasPivots → (κ : Kind) (n : ℕ → (Z g.p).Car) → IsBasis curve_on κ n → IsReduced (poles_of A.grounded.ready.setting) product_on (IdealOf curve_on κ n) → n 2 ≡ (Z g.p).zero
 
-abbrev pub TriedOf : (g : Ground) (a b : Divisor) (r : Tried) → Type 0
+  pub record TriedIs (r : Option Divisor) : Type 0 where
+    pub yes : IfSome r Summed
+    pub no : IfNone r Untypical
+
+abbrev pub TriedOf : (g : Ground) (a b : Divisor) (r : Option Divisor) → Type 0
 TriedOf g a b r = (A : TriedAsked g a b) → TriedIs A r

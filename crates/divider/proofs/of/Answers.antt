@@ -21,5 +21,5 @@ overflow_add-result c = record { fits = sum_fits _ _ _ (omega arith) (high-below
 pub overflow_add-result-2 : goal.overflow_add-result-2
 overflow_add-result-2 c = record { fits = more-fits _ _ _ _ (omega arith) (high-below _ _ c.requires refl) (omega arith) }
 
-pub returns : goal.returns
-returns c = made _ _ c.requires refl _ c.opposite_of-opposite.ensures
+pub invariant_of-result : goal.invariant_of-result
+invariant_of-result c = record { divides = made _ _ c.requires refl _ c.opposite_of-opposite.ensures }

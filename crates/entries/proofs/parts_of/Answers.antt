@@ -7,12 +7,12 @@ use Rattle.entries.proofs.parts_of.Goals as goal
 
 pub more1_less1-r0-requires : goal.more1_less1-r0-requires
 more1_less1-r0-requires c =
-    let asked = c.requires in record { below_2 = record { small = asked.parts_asked.o_below.small; x_below = c.sub-t6.ensures.below; a_below = asked.parts_asked.o_below.n11; b_below = asked.parts_asked.n_below.n7; c_below = asked.parts_asked.n_below.n1; d_below = c.sub-r1.ensures.below }; divides = asked.divides }
+    let asked = c.requires in record { small = asked.o_below.small; x_below = c.sub-t6.ensures.below; a_below = asked.o_below.n11; b_below = asked.n_below.n7; c_below = asked.n_below.n1; d_below = c.sub-r1.ensures.below }
 
 pub more1-k-requires : goal.more1-k-requires
 more1-k-requires c =
     let asked = c.requires in
-    record { fact = record { small = asked.parts_asked.o_below.small; below_1 = c.sub-r1.ensures.below; below_2 = asked.parts_asked.o_below.n12; below_3 = asked.parts_asked.n_below.n5 }; divides = asked.divides }
+    record { small = asked.o_below.small; below_1 = c.sub-r1.ensures.below; below_2 = asked.o_below.n12; below_3 = asked.n_below.n5 }
 
 pub returns : goal.returns
 returns c =
@@ -25,9 +25,9 @@ returns c =
       r1_is = c.sub-r1.ensures.is;
       r2_is = c.sub-r2.ensures.is;
       s_is = c.sub-s.ensures.is;
-      t_is = c.more1-t.ensures.is ∙ (λ i. more₁ (Z a.p) (c.add-t8.ensures.is i) (el a.p a.n.n2) (el a.p c.sub-r2.result));
-      s0_is = c.more2_less1-s0.ensures.is ∙ (λ i. more₂_less₁ (Z a.p) (c.add-t7.ensures.is i) (el a.p a.n.n2) (el a.p c.sub-r1.result) (el a.p a.n.n1) (el a.p c.sub-r2.result) (el a.p a.o.n11) (el a.p a.n.n8));
-      r0_is = c.more1_less1-r0.ensures.is ∙ (λ i. more₁_less₁ (Z a.p) (c.sub-t6.ensures.is i) (el a.p a.o.n11) (el a.p a.n.n7) (el a.p a.n.n1) (el a.p c.sub-r1.result));
+      t_is = c.more1-t.ensures.is ∙ (λ i. more₁ (Z a.modulus.p) (c.add-t8.ensures.is i) (el a.modulus.p a.n.n2) (el a.modulus.p c.sub-r2.result));
+      s0_is = c.more2_less1-s0.ensures.is ∙ (λ i. more₂_less₁ (Z a.modulus.p) (c.add-t7.ensures.is i) (el a.modulus.p a.n.n2) (el a.modulus.p c.sub-r1.result) (el a.modulus.p a.n.n1) (el a.modulus.p c.sub-r2.result) (el a.modulus.p a.o.n11) (el a.modulus.p a.n.n8));
+      r0_is = c.more1_less1-r0.ensures.is ∙ (λ i. more₁_less₁ (Z a.modulus.p) (c.sub-t6.ensures.is i) (el a.modulus.p a.o.n11) (el a.modulus.p a.n.n7) (el a.modulus.p a.n.n1) (el a.modulus.p c.sub-r1.result));
       k_is = c.more1-k.ensures.is;
       l_is = c.add-l.ensures.is;
     }

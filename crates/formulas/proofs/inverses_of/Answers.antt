@@ -3,4 +3,4 @@ use Rattle.formulas.proofs.Inverted.{inverted}
 use Rattle.formulas.proofs.inverses_of.Goals as goal
 
 pub returns : goal.returns
-returns c = inverted c.requires.inverses_asked.prime c.inverse_by-w.ensures c.mul-one.ensures c.mul-two.ensures
+returns c = inverted c.requires.prime c.inverse_by-w.ensures c.mul-one.ensures c.mul-two.ensures

@@ -5,48 +5,38 @@ use Rattle.matrix.proofs.cleared.Goals as goal
 
 pub crossed-bc-requires : goal.crossed-bc-requires
 crossed-bc-requires c =
-    let m = c.requires.matrix_below in
-    record { two_columns = record { small = m.small; a_below = below_at m 1 (omega arith) c.column_of-b.ensures; b_below = below_at m 2 (omega arith) c.column_of-c.ensures }; divides = c.requires.divides }
+    record { small = c.requires.small; a_below = below_at c.requires 1 (omega arith) c.column_of-b.ensures; b_below = below_at c.requires 2 (omega arith) c.column_of-c.ensures }
 
 pub crossed-ca-requires : goal.crossed-ca-requires
 crossed-ca-requires c =
-    let m = c.requires.matrix_below in
-    record { two_columns = record { small = m.small; a_below = below_at m 2 (omega arith) c.column_of-c.ensures; b_below = below_at m 0 (omega arith) c.column_of-a.ensures }; divides = c.requires.divides }
+    record { small = c.requires.small; a_below = below_at c.requires 2 (omega arith) c.column_of-c.ensures; b_below = below_at c.requires 0 (omega arith) c.column_of-a.ensures }
 
 pub crossed-ab-requires : goal.crossed-ab-requires
 crossed-ab-requires c =
-    let m = c.requires.matrix_below in
-    record { two_columns = record { small = m.small; a_below = below_at m 0 (omega arith) c.column_of-a.ensures; b_below = below_at m 1 (omega arith) c.column_of-b.ensures }; divides = c.requires.divides }
+    record { small = c.requires.small; a_below = below_at c.requires 0 (omega arith) c.column_of-a.ensures; b_below = below_at c.requires 1 (omega arith) c.column_of-b.ensures }
 
 pub dotted-z-requires : goal.dotted-z-requires
 dotted-z-requires c =
-    let m = c.requires.matrix_below in
-    record { two_columns = record { small = m.small; a_below = below_at m 0 (omega arith) c.column_of-a.ensures; b_below = c.crossed-bc.ensures.below }; divides = c.requires.divides }
+    record { small = c.requires.small; a_below = below_at c.requires 0 (omega arith) c.column_of-a.ensures; b_below = c.crossed-bc.ensures.below }
 
 pub coordinates-d-requires : goal.coordinates-d-requires
 coordinates-d-requires c =
-    let asked = c.requires in record {
-      four_columns = record {
-        small = asked.matrix_below.small;
-        v_below = below_at asked.matrix_below 3 (omega arith) c.column_of.ensures;
-        a_below = c.crossed-bc.ensures.below;
-        b_below = c.crossed-ca.ensures.below;
-        c_below = c.crossed-ab.ensures.below;
-      };
-      divides = asked.divides;
+    record {
+      small = c.requires.small;
+      v_below = below_at c.requires 3 (omega arith) c.column_of.ensures;
+      a_below = c.crossed-bc.ensures.below;
+      b_below = c.crossed-ca.ensures.below;
+      c_below = c.crossed-ab.ensures.below;
     }
 
 pub coordinates-e-requires : goal.coordinates-e-requires
 coordinates-e-requires c =
-    let asked = c.requires in record {
-      four_columns = record {
-        small = asked.matrix_below.small;
-        v_below = below_at asked.matrix_below 4 (omega arith) c.column_of-2.ensures;
-        a_below = c.crossed-bc.ensures.below;
-        b_below = c.crossed-ca.ensures.below;
-        c_below = c.crossed-ab.ensures.below;
-      };
-      divides = asked.divides;
+    record {
+      small = c.requires.small;
+      v_below = below_at c.requires 4 (omega arith) c.column_of-2.ensures;
+      a_below = c.crossed-bc.ensures.below;
+      b_below = c.crossed-ca.ensures.below;
+      c_below = c.crossed-ab.ensures.below;
     }
 
 pub returns : goal.returns

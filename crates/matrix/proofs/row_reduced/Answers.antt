@@ -6,13 +6,11 @@ use Rattle.matrix.proofs.row_reduced.Goals as goal
 
 pub times-d-requires : goal.times-d-requires
 times-d-requires c =
-    let asked = c.requires in
-    record { times_asked = record { small = asked.row_reduced_asked.small; v_below = subst (ColumnBelow _) (sym c.column_of.ensures) asked.row_reduced_asked.d_below; u_below = asked.row_reduced_asked.u_below }; divides = asked.divides }
+    record { small = c.requires.small; v_below = subst (ColumnBelow _) (sym c.column_of.ensures) c.requires.d_below; u_below = c.requires.u_below }
 
 pub times-e-requires : goal.times-e-requires
 times-e-requires c =
-    let asked = c.requires in
-    record { times_asked = record { small = asked.row_reduced_asked.small; v_below = subst (ColumnBelow _) (sym c.column_of-2.ensures) asked.row_reduced_asked.e_below; u_below = asked.row_reduced_asked.u_below }; divides = asked.divides }
+    record { small = c.requires.small; v_below = subst (ColumnBelow _) (sym c.column_of-2.ensures) c.requires.e_below; u_below = c.requires.u_below }
 
 pub returns : goal.returns
 returns c =

@@ -5,10 +5,10 @@ use mathlib.Core.Bool.{not}
 use Rattle.quick.proofs.served.Goals as goal
 
 pub returns-then-not-short_form : goal.returns-then-not-short_form
-returns-then-not-short_form c = not_short _ (c.short_form.ensures.fails (denied _ (ap not c.if-not-short_form.true)))
+returns-then-not-short_form c = not_short (c.short_form.ensures.fails (denied _ (ap not c.if-not-short_form.true)))
 
 pub returns-then-not-is_typical : goal.returns-then-not-is_typical
-returns-then-not-is_typical c = not_typical-first _ (c.is_typical.ensures.fails (denied _ (ap not c.if-not-is_typical.true)))
+returns-then-not-is_typical c = not_typical-first (c.is_typical.ensures.fails (denied _ (ap not c.if-not-is_typical.true)))
 
 pub returns-then-not-is_typical-2 : goal.returns-then-not-is_typical-2
 returns-then-not-is_typical-2 c = search (not_typical-first, not_typical-second, c.is_typical-2.ensures.fails (denied _ (ap not c.if-not-is_typical-2.true)))

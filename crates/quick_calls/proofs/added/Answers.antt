@@ -2,8 +2,8 @@
 use Rattle.classes.proofs.Values.{sum-made}
 use Rattle.quick_calls.proofs.added.Goals as goal
 
-pub returns-then-t : goal.returns-then-t
-returns-then-t c k o a b v u = ((c.served-t.ensures k o a b v u).yes c.if-t.true).1
+pub returns-in-Some : goal.returns-in-Some
+returns-in-Some c k o a b v u = (c.in-Some.ensures k o a b v u).yes.1
 
-pub returns : goal.returns
-returns c k o a b v u = sum-made o v u c.sum.ensures
+pub returns-in-None : goal.returns-in-None
+returns-in-None c k o a b v u = sum-made o v u c.sum.ensures

@@ -1,5 +1,5 @@
 -- `quick_calls::serves` meets its contract: the formulas are tried once the curve and both divisors are accepted.
-use mathlib.Core.Path.{refl, ◌∙◌}
+use mathlib.Core.Path.{refl, sym, ◌∙◌}
 use mathlib.Core.Logic.{inl, inr}
 use Rattle.reader.proofs.Ground.{curve-passes, curve-asked, curve_on, curve-cause, grounded_on}
 use Rattle.calls.specs.Answer.{refused, answered}
@@ -7,6 +7,7 @@ use Rattle.calls.proofs.Exists.{two-passes}
 use Rattle.classes.proofs.Values.{two-asked}
 use Rattle.classes.proofs.Read.{pair-given, pair-refused}
 use Rattle.reply.proofs.Number.{kept}
+use Rattle.quick.proofs.Serving.{serves-some, serves-none}
 use Rattle.comparison.proofs.Walks.{curve_refused, divisor_refused}
 use Rattle.quick_calls.proofs.serves.Goals as goal
 
@@ -32,8 +33,8 @@ served-t-requires c =
     let v = pair-given o a b two.result two.ensures _ _ c.in-Two.is in
     two-asked o v.0 v.1
 
-pub returns-then-t : goal.returns-then-t
-returns-then-t c =
+pub returns-then-is_some : goal.returns-then-is_some
+returns-then-is_some c =
     let k = c.args.curve.now in
     let a = c.args.a.now in
     let b = c.args.b.now in
@@ -43,10 +44,10 @@ returns-then-t c =
     let two = c.read_two-next in
     let v = pair-given o a b two.result two.ensures _ _ c.in-Two.is in
     let s = c.served-t.ensures k o a b v.0 v.1 in
-    answered (two-passes k (curve-passes k read.result read.ensures _ is) a b v.0.accepted v.1.accepted) (inl ((s.yes c.if-t.true).0, refl))
+    answered (two-passes k (curve-passes k read.result read.ensures _ is) a b v.0.accepted v.1.accepted) (inl (serves-some s (sym c.is_some.ensures ∙ c.if-is_some.true), refl))
 
-pub returns-else-t : goal.returns-else-t
-returns-else-t c =
+pub returns-else-is_some : goal.returns-else-is_some
+returns-else-is_some c =
     let k = c.args.curve.now in
     let a = c.args.a.now in
     let b = c.args.b.now in
@@ -56,7 +57,7 @@ returns-else-t c =
     let two = c.read_two-next in
     let v = pair-given o a b two.result two.ensures _ _ c.in-Two.is in
     let s = c.served-t.ensures k o a b v.0 v.1 in
-    answered (two-passes k (curve-passes k read.result read.ensures _ is) a b v.0.accepted v.1.accepted) (inr (s.no c.if-t.false, refl))
+    answered (two-passes k (curve-passes k read.result read.ensures _ is) a b v.0.accepted v.1.accepted) (inr (serves-none s (sym c.is_some.ensures ∙ c.if-is_some.false), refl))
 
 pub returns-in-Refused-next : goal.returns-in-Refused-next
 returns-in-Refused-next c =

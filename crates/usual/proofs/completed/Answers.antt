@@ -3,4 +3,4 @@ use Rattle.usual.proofs.Complete.{complete}
 use Rattle.usual.proofs.completed.Goals as goal
 
 pub returns : goal.returns
-returns c = complete c.tail_of-u.ensures c.tail_of-v.ensures c.head_of-h.ensures c.body_of-b.ensures c.last_of-l.ensures c.requires.complete_asked.o_below.small
+returns c = complete c.tail_of-u.ensures c.tail_of-v.ensures c.head_of-h.ensures c.body_of-b.ensures c.last_of-l.ensures c.requires.o_below.small

@@ -1,7 +1,7 @@
--- `barrett::sub_product` meets its contract: p² less the product is one term more.
+-- `Modulus::sub_product` meets its contract: p² less the product is one term more.
 use native.Mathlib.Omega.{arith}
 use Rattle.barrett.proofs.Sums.{product-most, square-most, product-square, taken}
-use Rattle.barrett.proofs.sub_product.Goals as goal
+use Rattle.barrett.proofs.Modulus.sub_product.Goals as goal
 
 pub overflow_mul-result : goal.overflow_mul-result
 overflow_mul-result c = omega (arith, square-most _ c.requires.small)

@@ -1,8 +1,8 @@
--- `barrett::less1` meets its contract: x and a·(p − b) are reduced.
+-- `Modulus::less1` meets its contract: x and a·(p − b) are reduced.
 use native.Mathlib.Omega.{arith}
 use Rattle.field.proofs.Products.{product-fits}
 use Rattle.barrett.proofs.Sums.{one-fits, other_half, less_one, reduced-one}
-use Rattle.barrett.proofs.less1.Goals as goal
+use Rattle.barrett.proofs.Modulus.less1.Goals as goal
 
 pub overflow_mul-a : goal.overflow_mul-a
 overflow_mul-a c = product-fits _ _ (omega arith) (omega arith)
@@ -11,7 +11,7 @@ pub overflow_add-x : goal.overflow_add-x
 overflow_add-x c = one-fits _ _ _ (omega arith) (omega arith) (omega arith)
 
 pub reduce_half-requires : goal.reduce_half-requires
-reduce_half-requires c = record { divides = c.requires.divides; x_bound = other_half _ _ _ _ c.requires.fact.small c.requires.fact.below_1 c.requires.fact.below_2 }
+reduce_half-requires c = other_half _ _ _ _ c.requires.small c.requires.below_1 c.requires.below_2
 
 pub returns : goal.returns
 returns c = reduced-one _ c.reduce_half.ensures (less_one _ _ _ _ (omega arith))

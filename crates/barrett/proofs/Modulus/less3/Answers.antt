@@ -1,6 +1,6 @@
--- `barrett::less3` meets its contract: three products are taken from x, and the sum is reduced.
+-- `Modulus::less3` meets its contract: three products are taken from x, and the sum is reduced.
 use Rattle.barrett.proofs.Sums.{reduced, less-together}
-use Rattle.barrett.proofs.less3.Goals as goal
+use Rattle.barrett.proofs.Modulus.less3.Goals as goal
 
 pub returns : goal.returns
 returns c =

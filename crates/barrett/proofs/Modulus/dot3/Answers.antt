@@ -1,6 +1,6 @@
--- `barrett::dot3` meets its contract: the sum of the three products is reduced.
+-- `Modulus::dot3` meets its contract: the sum of the three products is reduced.
 use Rattle.barrett.proofs.Sums.{reduced, more-after}
-use Rattle.barrett.proofs.dot3.Goals as goal
+use Rattle.barrett.proofs.Modulus.dot3.Goals as goal
 
 pub returns : goal.returns
 returns c =
