@@ -7,6 +7,8 @@ ghost use Rattle.vector.specs.Vector.{width};
 ghost use Rattle.basis.specs.Divisor.{of_four, divisor_0};
 ghost use Rattle.basis.specs.Contract.{coefficients, IsTriple, TripleOf, BasisAsked, BasisTest};
 
+use triple::Triple;
+
 #[derive(Clone, Copy)]
 pub struct Divisor {
     pub kind: u32,
@@ -61,80 +63,85 @@ fn polynomial(m: usize, a0: u32, a3: u32, a4: u32, a7: u32) -> [u32; 26]
 }
 
 // The triple of a record.
-pub fn triple_of(r: Divisor, t: &mut [[u32; 26]; 3], d: &mut [usize; 3])
-    ensures { TripleOf r t.new d.new }
+pub fn triple_of(r: Divisor) -> Triple
+    ensures { TripleOf r result.rows result.degrees }
 {
     if r.kind == 0 {
-        triple_0(r, t, d);
+        triple_0(r)
     } else if r.kind == 11 {
-        triple_11(r, t, d);
+        triple_11(r)
     } else if r.kind == 21 {
-        triple_21(r, t, d);
+        triple_21(r)
     } else if r.kind == 22 {
-        triple_22(r, t, d);
+        triple_22(r)
     } else {
-        triple_31(r, t, d);
+        triple_31(r)
     }
 }
 
 // 1; y; y²
-fn triple_0(r: Divisor, t: &mut [[u32; 26]; 3], d: &mut [usize; 3])
-    ensures { IsTriple k0 r t.new d.new }
+fn triple_0(r: Divisor) -> Triple
+    ensures { IsTriple k0 r result.rows result.degrees }
 {
     let a = polynomial(0, 0, 0, 0, 0);
     let b = polynomial(4, 0, 0, 0, 0);
     let c = polynomial(8, 0, 0, 0, 0);
-    let rows = [a, b, c];
-    *t = rows;
-    *d = [0, 4, 8];
+    Triple {
+        rows: [a, b, c],
+        degrees: [0, 4, 8],
+    }
 }
 
 // x + f0; y + g0; y times the second
-fn triple_11(r: Divisor, t: &mut [[u32; 26]; 3], d: &mut [usize; 3])
-    ensures { IsTriple k11 r t.new d.new }
+fn triple_11(r: Divisor) -> Triple
+    ensures { IsTriple k11 r result.rows result.degrees }
 {
     let a = polynomial(3, r.n0, 0, 0, 0);
     let b = polynomial(4, r.n1, 0, 0, 0);
     let c = polynomial(8, 0, 0, r.n1, 0);
-    let rows = [a, b, c];
-    *t = rows;
-    *d = [3, 4, 8];
+    Triple {
+        rows: [a, b, c],
+        degrees: [3, 4, 8],
+    }
 }
 
 // x² + g1·x + g0; y + f1·x + f0; y times the second
-fn triple_21(r: Divisor, t: &mut [[u32; 26]; 3], d: &mut [usize; 3])
-    ensures { IsTriple k21 r t.new d.new }
+fn triple_21(r: Divisor) -> Triple
+    ensures { IsTriple k21 r result.rows result.degrees }
 {
     let a = polynomial(6, r.n2, r.n3, 0, 0);
     let b = polynomial(4, r.n0, r.n1, 0, 0);
     let c = polynomial(8, 0, 0, r.n0, r.n1);
-    let rows = [a, b, c];
-    *t = rows;
-    *d = [6, 4, 8];
+    Triple {
+        rows: [a, b, c],
+        degrees: [6, 4, 8],
+    }
 }
 
 // x + f0; y times the first; y² + g1·y + g0
-fn triple_22(r: Divisor, t: &mut [[u32; 26]; 3], d: &mut [usize; 3])
-    ensures { IsTriple k22 r t.new d.new }
+fn triple_22(r: Divisor) -> Triple
+    ensures { IsTriple k22 r result.rows result.degrees }
 {
     let a = polynomial(3, r.n0, 0, 0, 0);
     let b = polynomial(7, 0, 0, r.n0, 0);
     let c = polynomial(8, r.n1, 0, r.n2, 0);
-    let rows = [a, b, c];
-    *t = rows;
-    *d = [3, 7, 8];
+    Triple {
+        rows: [a, b, c],
+        degrees: [3, 7, 8],
+    }
 }
 
 // x² + f2·y + f1·x + f0; xy + g2·y + g1·x + g0; y² + h2·y + h1·x + h0
-fn triple_31(r: Divisor, t: &mut [[u32; 26]; 3], d: &mut [usize; 3])
-    ensures { IsTriple k31 r t.new d.new }
+fn triple_31(r: Divisor) -> Triple
+    ensures { IsTriple k31 r result.rows result.degrees }
 {
     let a = polynomial(6, r.n0, r.n1, r.n2, 0);
     let b = polynomial(7, r.n3, r.n4, r.n5, 0);
     let c = polynomial(8, r.n6, r.n7, r.n8, 0);
-    let rows = [a, b, c];
-    *t = rows;
-    *d = [6, 7, 8];
+    Triple {
+        rows: [a, b, c],
+        degrees: [6, 7, 8],
+    }
 }
 
 // Is the record a basis on the curve of which `cube` is the vector of y³?
@@ -142,8 +149,6 @@ pub fn is_basis(p: u32, cube: &[u32; 26], r: Divisor) -> bool
     requires { BasisAsked p cube.now r }
     ensures { BasisTest p cube.now r result }
 {
-    let mut t = [[0u32; 26]; 3];
-    let mut d = [0usize; 3];
-    triple_of(r, &mut t, &mut d);
-    span::closed(p, cube, &t, &d)
+    let t = triple_of(r);
+    span::closed(p, cube, &t)
 }

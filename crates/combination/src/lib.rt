@@ -6,6 +6,7 @@ ghost use Rattle.combination.specs.Contract.{MemberOf, CombinationAsked, Combina
 
 use basis::Divisor;
 use ground::Ground;
+use triple::Triple;
 
 // A monic polynomial, by its vector and its degree.
 #[derive(Clone, Copy)]
@@ -19,10 +20,11 @@ pub fn member(x: Divisor, j: usize) -> Polynomial
     requires { j < 3 }
     ensures { MemberOf x j result }
 {
-    let mut t = [[0u32; 26]; 3];
-    let mut d = [0usize; 3];
-    basis::triple_of(x, &mut t, &mut d);
-    Polynomial { v: t[j], d: d[j] }
+    let t = basis::triple_of(x);
+    Polynomial {
+        v: t.rows[j],
+        d: t.degrees[j],
+    }
 }
 
 // The star of u·I + v·J, for the ideals I of x and J of y.
@@ -30,21 +32,18 @@ pub fn star_of(g: Ground, u: Polynomial, x: Divisor, v: Polynomial, y: Divisor) 
     requires { CombinationAsked g u x v y }
     ensures { CombinationOf g u x v y result }
 {
-    let mut t = [[0u32; 26]; 3];
-    let mut d = [26usize; 3];
-    add(g, u, x, &mut t, &mut d);
-    add(g, v, y, &mut t, &mut d);
-    star::star(g, &t, &d)
+    let mut t = Triple::empty();
+    add(g, u, x, &mut t);
+    add(g, v, y, &mut t);
+    star::star(g, &t)
 }
 
 // u·I is added to the span of a triple, for the ideal I of x.
-fn add(g: Ground, u: Polynomial, x: Divisor, t: &mut [[u32; 26]; 3], d: &mut [usize; 3])
-    requires { AddAsked g u x t.old d.old }
-    ensures { Added g u x t.old t.new d.new }
+fn add(g: Ground, u: Polynomial, x: Divisor, t: &mut Triple)
+    requires { AddAsked g u x t.old.rows t.old.degrees }
+    ensures { Added g u x t.old.rows t.new.rows t.new.degrees }
 {
-    let mut t1 = [[0u32; 26]; 3];
-    let mut d1 = [0usize; 3];
-    basis::triple_of(x, &mut t1, &mut d1);
+    let a = basis::triple_of(x);
     let ys = multiplication::y_multiples(g.p, &g.cube, &u.v, u.d + 1);
-    product::insert_products(g.p, &t1, &d1, &ys, u.d + 1, t, d);
+    product::insert_products(g.p, &a, &ys, u.d + 1, t);
 }

@@ -9,6 +9,8 @@ ghost use Rattle.field.specs.Contract.{Below₁, Is};
 ghost use Rattle.nonsingular.specs.Derivative.{twice as double, thrice as treble};
 ghost use Rattle.equation.specs.Equation.{curve_of, Coefficients, IsCube, DerivativeAsked, DerivativeX, DerivativeY, TestAsked};
 
+use triple::Triple;
+
 // y³ + a0·x⁴ + c8·xy² + c7·x²y + c6·x³ + c5·y² + c4·xy + c3·x² + c2·y + c1·x + c0 modulo p
 #[derive(Clone, Copy)]
 pub struct Equation {
@@ -52,15 +54,14 @@ pub fn nonsingular(e: Equation, cube: &[u32; 26]) -> bool
     ensures { Answers (Nonsingular (curve_of e)) result }
 {
     let p = e.p;
-    let mut t = [[0u32; 26]; 3];
-    let mut d = [26usize; 3];
+    let mut t = Triple::empty();
     let v = derivative_y(e);
     let ys = multiplication::y_multiples(p, cube, &v, 9);
-    triple::insert_all(p, &mut t, &mut d, &ys, 9);
+    t.insert_all(p, &ys, 9);
     let w = derivative_x(e);
     let zs = multiplication::y_multiples(p, cube, &w, 10);
-    triple::insert_all(p, &mut t, &mut d, &zs, 10);
-    triple::whole(&d)
+    t.insert_all(p, &zs, 10);
+    t.is_whole()
 }
 
 // The derivative by x: c1 + 2c3·x + 3c6·x² + 4a0·x³ + (c4 + 2c7·x)·y + c8·y²

@@ -11,10 +11,8 @@ pub fn negative(g: Ground, a: Divisor) -> Divisor
     requires { NegativeAsked g a }
     ensures { NegativeOf g a result }
 {
-    let mut t = [[0u32; 26]; 3];
-    let mut d = [0usize; 3];
-    basis::triple_of(a, &mut t, &mut d);
-    star::star(g, &t, &d)
+    let t = basis::triple_of(a);
+    star::star(g, &t)
 }
 
 // The sum by formulas, if these serve: they are tried for two divisors of kind 31.
@@ -62,16 +60,10 @@ fn product_star(g: Ground, a: Divisor, b: Divisor) -> Divisor
     requires { SumAsked g a b }
     ensures { ProductStarOf g a b result }
 {
-    let mut t1 = [[0u32; 26]; 3];
-    let mut d1 = [0usize; 3];
-    basis::triple_of(a, &mut t1, &mut d1);
-    let mut t2 = [[0u32; 26]; 3];
-    let mut d2 = [0usize; 3];
-    basis::triple_of(b, &mut t2, &mut d2);
-    let mut t = [[0u32; 26]; 3];
-    let mut d = [0usize; 3];
-    product::product(g.p, &g.cube, &t1, &d1, &t2, &d2, &mut t, &mut d);
-    star::star(g, &t, &d)
+    let u = basis::triple_of(a);
+    let v = basis::triple_of(b);
+    let t = product::product(g.p, &g.cube, &u, &v);
+    star::star(g, &t)
 }
 
 // The zero class.

@@ -54,12 +54,10 @@ pub fn functional(q: Pose, ys: &[[u32; 26]; 3]) -> [u32; 26]
 {
     let mut lam = [0u32; 26];
     lam[q.d + 5] = 1;
-    let mut s = 6;
-    while s < 14 {
+    for s in 6..14 {
         let j = s % 3;
         let v = value(q.p, &lam, q.d + 5, &ys[j], s - 4 * j, q.d + s);
         lam[q.d + s] = opposite(q, j + q.d % 3, v);
-        s += 1;
     }
     lam
 }

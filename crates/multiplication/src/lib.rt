@@ -9,10 +9,8 @@ pub fn times_y(p: u32, cube: &[u32; 26], v: &[u32; 26], top: usize) -> [u32; 26]
     ensures { TimesY p cube.now v.now top result }
 {
     let mut out = shift_y(v, top);
-    let mut n = 8;
-    while n < top {
+    for n in (8..top).step_by(3) {
         vector::axpy(p, &mut out, v[n], cube, n - 8, 13);
-        n += 3;
     }
     out
 }
@@ -34,13 +32,11 @@ fn shift_y(v: &[u32; 26], top: usize) -> [u32; 26]
 {
     let powers = terms::normal::Y_POWER;
     let mut out = [0u32; 26];
-    let mut n = 0;
-    while n < top {
+    for n in 0..top {
         let m = n + 4;
         if powers[m] != 0 {
             out[m] = v[n];
         }
-        n += 1;
     }
     out
 }

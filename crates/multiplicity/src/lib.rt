@@ -3,57 +3,46 @@
 
 ghost use Rattle.multiplicity.specs.Contract.{MemberAsked, MemberTest, InsideAsked, InsideTest, MultiplicityAsked, MultiplicityFound};
 
-// Is v, which is below top, in the span of the triple (s, e)?
-fn member(p: u32, v: &[u32; 26], top: usize, s: &[[u32; 26]; 3], e: &[usize; 3]) -> bool
-    requires { MemberAsked p v.now top s.now e.now }
-    ensures { MemberTest p v.now s.now result }
+use triple::Triple;
+
+// Is v, which is below top, in the span of the triple s?
+fn member(p: u32, v: &[u32; 26], top: usize, s: &Triple) -> bool
+    requires { MemberAsked p v.now top s.now.rows s.now.degrees }
+    ensures { MemberTest p v.now s.now.rows result }
 {
     let mut w = *v;
-    span::reduce(p, s, e, &mut w, top);
+    span::reduce(p, s, &mut w, top);
     vector::is_zero(&w, 26)
 }
 
-// Does the span of the triple (t, d) lie inside that of the triple (s, e)?
-fn inside(p: u32, t: &[[u32; 26]; 3], d: &[usize; 3], s: &[[u32; 26]; 3], e: &[usize; 3]) -> bool
-    requires { InsideAsked p t.now d.now s.now e.now }
-    ensures { InsideTest p t.now s.now result }
+// Does the span of the triple t lie inside that of the triple s?
+fn inside(p: u32, t: &Triple, s: &Triple) -> bool
+    requires { InsideAsked p t.now.rows t.now.degrees s.now.rows s.now.degrees }
+    ensures { InsideTest p t.now.rows s.now.rows result }
 {
-    let mut j = 0;
-    while j < 3 {
-        let top = d[j] + 1;
-        if !member(p, &t[j], top, s, e) {
+    for j in 0..3 {
+        let top = t.degrees[j] + 1;
+        if !member(p, &t.rows[j], top, s) {
             return false;
         }
-        j += 1;
     }
     true
 }
 
-// The largest k up to 3 for which the span of the triple (t, d) lies inside the k-th power of that of the triple (u, e).
-pub fn multiplicity(
-    p: u32,
-    cube: &[u32; 26],
-    t: &[[u32; 26]; 3],
-    d: &[usize; 3],
-    u: &[[u32; 26]; 3],
-    e: &[usize; 3],
-) -> usize
-    requires { MultiplicityAsked p cube.now t.now d.now u.now e.now }
-    ensures { MultiplicityFound p cube.now t.now u.now result }
+// The largest k up to 3 for which the span of the triple t lies inside the k-th power of that of the triple u.
+pub fn multiplicity(p: u32, cube: &[u32; 26], t: &Triple, u: &Triple) -> usize
+    requires { MultiplicityAsked p cube.now t.now.rows t.now.degrees u.now.rows u.now.degrees }
+    ensures { MultiplicityFound p cube.now t.now.rows u.now.rows result }
 {
-    if !inside(p, t, d, u, e) {
+    if !inside(p, t, u) {
         return 0;
     }
-    let mut square = [[0u32; 26]; 3];
-    let mut degrees = [0usize; 3];
-    product::product(p, cube, u, e, u, e, &mut square, &mut degrees);
-    if !inside(p, t, d, &square, &degrees) {
+    let square = product::product(p, cube, u, u);
+    if !inside(p, t, &square) {
         return 1;
     }
-    let mut third = [[0u32; 26]; 3];
-    let mut tops = [0usize; 3];
-    product::product(p, cube, u, e, &square, &degrees, &mut third, &mut tops);
-    if !inside(p, t, d, &third, &tops) {
+    let third = product::product(p, cube, u, &square);
+    if !inside(p, t, &third) {
         return 2;
     }
     3

@@ -13,6 +13,7 @@ ghost use Rattle.star.specs.Parts.{Posed, ByKind};
 use basis::Divisor;
 use ground::Ground;
 use lambda::Pose;
+use triple::Triple;
 
 // a4·y + a3·x + a0
 #[derive(Clone, Copy)]
@@ -171,18 +172,18 @@ fn multiples(g: Ground, t: &[[u32; 26]; 3], j: usize, e: usize) -> [[u32; 26]; 3
 }
 
 // The star of a triple whose least degree is that of the class j, where it is not the zero class.
-fn star_from(g: Ground, t: &[[u32; 26]; 3], d: &[usize; 3], j: usize) -> Divisor
-    requires { FromAsked g t.now d.now j }
-    ensures { StarOf g t.now d.now result }
+fn star_from(g: Ground, t: &Triple, j: usize) -> Divisor
+    requires { FromAsked g t.now.rows t.now.degrees j }
+    ensures { StarOf g t.now.rows t.now.degrees result }
 {
     let j1 = (j + 1) % 3;
     let j2 = (j + 2) % 3;
-    let e = d[j];
-    let e1 = d[j1];
-    let e2 = d[j2];
-    let ys = multiples(g, t, j, e);
-    let us = multiples(g, t, j1, e1);
-    let ws = multiples(g, t, j2, e2);
+    let e = t.degrees[j];
+    let e1 = t.degrees[j1];
+    let e2 = t.degrees[j2];
+    let ys = multiples(g, &t.rows, j, e);
+    let us = multiples(g, &t.rows, j1, e1);
+    let ws = multiples(g, &t.rows, j2, e2);
     let q = Pose {
         p: g.p,
         unit: g.unit,
@@ -196,15 +197,15 @@ fn star_from(g: Ground, t: &[[u32; 26]; 3], d: &[usize; 3], j: usize) -> Divisor
 
 // The divisor of the star of a triple's span, an ideal with an element of degree 12 or less. The degrees less the least one
 // are (1, 2), (4, 2), (1, 5), (4, 5) or (4, 8) in the order of the classes from the least one's on.
-pub fn star(g: Ground, t: &[[u32; 26]; 3], d: &[usize; 3]) -> Divisor
-    requires { StarAsked g t.now d.now }
-    ensures { StarOf g t.now d.now result }
+pub fn star(g: Ground, t: &Triple) -> Divisor
+    requires { StarAsked g t.now.rows t.now.degrees }
+    ensures { StarOf g t.now.rows t.now.degrees result }
 {
-    let j = least(d);
-    let e = d[j];
-    let e2 = d[(j + 2) % 3];
+    let j = least(&t.degrees);
+    let e = t.degrees[j];
+    let e2 = t.degrees[(j + 2) % 3];
     if e2 == e + 8 {
         return basis::zero_class();
     }
-    star_from(g, t, d, j)
+    star_from(g, t, j)
 }

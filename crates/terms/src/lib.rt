@@ -15,13 +15,11 @@ pub fn times(p: u32, b: &[u32; 26], e: usize, ys: &[[u32; 26]; 3], top: usize) -
     let powers = Y_POWER;
     let poles = X_POLE;
     let mut out = [0u32; 26];
-    let mut n = 0;
-    while n < e {
+    for n in 0..e {
         let j = powers[n] as usize;
         if j < 3 {
             vector::axpy(p, &mut out, b[n], &ys[j], poles[n] as usize, top + 4 * j);
         }
-        n += 1;
     }
     out
 }

@@ -1,5 +1,4 @@
--- The loop of insert_all, and the test of the degrees.
---   whole-no, whole_last   whole's answers
+-- The loop of insert_all.
 --   Filling                insert_all's invariant: j of the vectors have been put in
 --   fill_start, fill_asked, fill_more, fill_end
 --   fill_stop              the triple is that of the whole ring already
@@ -24,12 +23,6 @@ use Rattle.triple.specs.Contract.{InsertAsked, Inserted, AllAsked, AllInserted, 
 use Rattle.triple.proofs.Members.{each_row, row-each}
 use Rattle.triple.proofs.Leads.{whole-all}
 use Rattle.triple.proofs.Listed.{listed-each, listed_at, listed-rest, span_cons}
-
-pub whole-no : (d : List ℕ) → (Whole d → ⊥) → Answers (Whole d) false
-whole-no d n = answer-no n
-
-pub whole_last : (d : List ℕ) → at d 0 ≡ 0 → at d 1 ≡ 4 → Answers (Whole d) (eqb (at d 2) 8)
-whole_last d a b = record { holds = λ e. record { zeroth = a; first = b; second = eqb-true (at d 2) 8 e }; fails = λ e w. eqb-false (at d 2) 8 e w.second }
 
 pub record Filling (p : ℕ) (t ys t' : List (List ℕ)) (d' : List ℕ) (j : ℕ) : Type 0 where
   pub bound : j ≤ 3

@@ -2,7 +2,7 @@
 --   InsertAsked, Inserted        insert: the span afterwards is the span of the triple and v
 --   TurnAsked, Turned            turn: one turn of insert
 --   AllAsked, AllInserted        insert_all: the span afterwards is the span of the triple and the three vectors
---   Whole                        whole: the degrees are (0, 4, 8)
+--   Whole                        is_whole: the degrees are (0, 4, 8)
 use Rattle.std.specs.Prelude.{◌≡◌, List, ◌∷◌, ◌++◌, ℕ, suc, ◌+◌, ◌%◌, ◌<◌, ◌≤◌}
 use Rattle.prime.specs.Prime.{Prime}
 use Rattle.ideal.specs.Ideal.{SameIdeal}

@@ -7,24 +7,21 @@
 --   added_start, added_more, added_end            axpy; added_none with the factor 0, added_skip at a number 0
 --   scaled_start, scaled_more, scaled_end         scale
 --   paired_start, paired_more, paired_end         dot
---   seen_more, zero_test_true, zero_test_false    is_zero
 use mathlib.Core.Path.{◌≡◌, refl, sym, ◌∙◌, ap, subst}
-use mathlib.Core.Bool.{true, false}
 use mathlib.Core.List.{List}
 use mathlib.Core.Logic.{inl, inr}
 use Prim.Native.Nat.{ℕ, zero, suc, ◌+◌, ◌-◌, ◌%◌, ◌<◌, ◌≤◌}
 use native.Mathlib.Omega.{arith}
-use native.Mathlib.Decide.{ℕ_discrete, dec_lt}
+use native.Mathlib.Decide.{ℕ_discrete}
 use lib.ListN.{length, set, length-set, replicate}
 use lib.Seq.{get_or-set_same, get_or-set_other}
 use Rattle.algebra.proofs.Laws as L
 use Rattle.field.specs.Residue.{Z, el}
 use Rattle.field.proofs.Element.{el-zero, el_inj}
 use Rattle.field.specs.Contract.{Is}
-use Rattle.field.proofs.Invert.{lt_of_ne}
 use Rattle.ideal.specs.Poles.{IsGap}
 use Rattle.vector.specs.Vector.{Vec, at, res, width}
-use Rattle.vector.specs.Contract.{AxpyAsked, Added, ScaleAsked, Scaled, total, pairing, ZeroAsked, ZeroTest}
+use Rattle.vector.specs.Contract.{AxpyAsked, Added, ScaleAsked, Scaled, total, pairing}
 
 pub gap-zero : {p : ℕ} {v : List ℕ} → Vec p v → (n : ℕ) → IsGap n → at v n ≡ 0
 gap-zero {v = v} h n (inl e) = ap (at v) e ∙ h.gap_1
@@ -184,22 +181,3 @@ paired_more {p} {r} {r'} a b s from n h i j =
 pub paired_end : {p r : ℕ} (a b : List ℕ) (s from n to : ℕ) → n - from ≡ to - from → Is p r (pairing p a b s from n) → Is p r (pairing p a b s from to)
 paired_end {p} a b s from n to e i =
     record { below = i.below; is = i.is ∙ ap (total (Z p) (λ k. (Z p).mul (res p a (from + k)) (res p b (from + k - s)))) e }
-
-pub seen_more : (v : List ℕ) (i : ℕ) → ((k : ℕ) → k < i → at v k ≡ 0) → at v i ≡ 0 → (k : ℕ) → k < i + 1 → at v k ≡ 0
-seen_more v i s e k l = go (ℕ_discrete k i)
-  where
-    go : Dec (k ≡ i) → at v k ≡ 0
-    go (yes d) = ap (at v) d ∙ e
-    go (no d) = s k (omega arith)
-
-pub zero_test_true : (v : List ℕ) (top i : ℕ) → ZeroAsked v top → top ≤ i → ((k : ℕ) → k < i → at v k ≡ 0) → ZeroTest v true
-zero_test_true v top i a l s =
-    record { zero_vector = λ e n h. go n (dec_lt n i); nonzero = λ e. let z : ◌≡◌ {A = ℕ} 0 1 = cc in absurd (omega arith) }
-  where
-    go : (n : ℕ) → Dec (n < i) → at v n ≡ 0
-    go n (yes h) = s n h
-    go n (no h) = a.v_top n (omega arith)
-
-pub zero_test_false : (v : List ℕ) (i : ℕ) → i < 26 → ¬ (at v i ≡ 0) → ZeroTest v false
-zero_test_false v i l n =
-    record { zero_vector = λ e. let z : ◌≡◌ {A = ℕ} 0 1 = cc in absurd (omega arith); nonzero = λ e. (i, l, lt_of_ne (at v i) n) }

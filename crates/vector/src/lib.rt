@@ -13,16 +13,13 @@ pub fn axpy(p: u32, r: &mut [u32; 26], c: u32, b: &[u32; 26], s: usize, e: usize
     if c == 0 {
         return;
     }
-    let mut i = 0;
-    while i < e {
+    for i in 0..e {
         let a = b[i];
         if a == 0 {
-            i += 1;
             continue;
         }
         let n = i + s;
         r[n] = field::mul_add(p, c, a, r[n]);
-        i += 1;
     }
 }
 
@@ -55,10 +52,8 @@ pub fn dot(p: u32, a: &[u32; 26], b: &[u32; 26], s: usize, from: usize, to: usiz
     ensures { Is p result (pairing p a.now b.now s from to) }
 {
     let mut r = 0;
-    let mut n = from;
-    while n < to {
+    for n in from..to {
         r = field::mul_add(p, a[n], b[n - s], r);
-        n += 1;
     }
     r
 }
@@ -68,14 +63,7 @@ pub fn is_zero(v: &[u32; 26], top: usize) -> bool
     requires { ZeroAsked v.now top }
     ensures { ZeroTest v.now result }
 {
-    let mut i = 0;
-    while i < top {
-        if v[i] != 0 {
-            return false;
-        }
-        i += 1;
-    }
-    true
+    v[..top].iter().all(|&a| a == 0)
 }
 
 // c·v, for v below e: the numbers from e on stay.
@@ -83,9 +71,7 @@ fn scale(p: u32, v: &mut [u32; 26], c: u32, e: usize)
     requires { ScaleAsked p v.old c e }
     ensures { Scaled p v.old c e v.new }
 {
-    let mut i = 0;
-    while i < e {
-        v[i] = field::mul(p, c, v[i]);
-        i += 1;
+    for a in &mut v[..e] {
+        *a = field::mul(p, c, *a);
     }
 }

@@ -7,8 +7,8 @@ y_multiples-ys-requires c = multiples_asked c.requires
 
 pub insert_products-requires : goal.insert_products-requires
 insert_products-requires c =
-    products_asked c.requires c.triple_of.ensures c.y_multiples-ys.ensures
+    products_asked c.requires c.triple_of-a.ensures c.y_multiples-ys.ensures
 
 pub returns : goal.returns
 returns c =
-    added c.requires c.triple_of.ensures c.y_multiples-ys.ensures c.insert_products.ensures
+    added c.requires c.triple_of-a.ensures c.y_multiples-ys.ensures c.insert_products.ensures

@@ -3,4 +3,4 @@ use Rattle.combination.proofs.Members.{member_of}
 use Rattle.combination.proofs.member.Goals as goal
 
 pub returns : goal.returns
-returns c = member_of c.triple_of.ensures c.requires
+returns c = member_of c.triple_of-t.ensures c.requires

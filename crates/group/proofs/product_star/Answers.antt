@@ -2,14 +2,14 @@
 use Rattle.group.proofs.Stars.{product_asked, product-star_asked, product_star_of}
 use Rattle.group.proofs.product_star.Goals as goal
 
-pub product-requires : goal.product-requires
-product-requires c =
-    product_asked c.triple_of.ensures c.triple_of-2.ensures c.requires
+pub product-t-requires : goal.product-t-requires
+product-t-requires c =
+    product_asked c.triple_of-u.ensures c.triple_of-v.ensures c.requires
 
 pub star-requires : goal.star-requires
 star-requires c =
-    product-star_asked c.triple_of.ensures c.triple_of-2.ensures c.product.ensures c.requires
+    product-star_asked c.triple_of-u.ensures c.triple_of-v.ensures c.product-t.ensures c.requires
 
 pub returns : goal.returns
 returns c =
-    product_star_of c.triple_of.ensures c.triple_of-2.ensures c.product.ensures c.star.ensures
+    product_star_of c.triple_of-u.ensures c.triple_of-v.ensures c.product-t.ensures c.star.ensures

@@ -1,4 +1,4 @@
--- `multiplication::times_y` meets its contract. The loop's invariant is YPart of proofs/ByY, its measure top − n.
+-- `multiplication::times_y` meets its contract. The loop's invariant is YPart of proofs/ByY; its measure: top − n.
 use Prim.Native.Nat.{◌-◌}
 use Rattle.multiplication.proofs.ByY.{YPart}
 use Rattle.multiplication.proofs.times_y.Given as goal

@@ -1,4 +1,4 @@
--- `multiplicity::inside` meets its contract. The loop's invariant is Within of proofs/Rests, its measure 3 − j.
+-- `multiplicity::inside` meets its contract. The loop's invariant is Within of proofs/Rests.
 use native.Mathlib.Omega.{arith}
 use Rattle.multiplicity.proofs.Rests.{within-start, within-asked, within_more, within_stop, within_end}
 use mathlib.Core.Path.{ap}
@@ -16,12 +16,6 @@ member-requires c = within-asked c.loop-j.invariant (omega arith)
 
 pub returns-then-not-member : goal.returns-then-not-member
 returns-then-not-member c = within_stop c.loop-j.invariant (omega arith) c.member.ensures (ap not c.if-not-member.true)
-
-pub overflow_add-j : goal.overflow_add-j
-overflow_add-j c = omega arith
-
-pub loop-j-smaller : goal.loop-j-smaller
-loop-j-smaller c = omega arith
 
 pub loop-j-preserved : goal.loop-j-preserved
 loop-j-preserved c = within_more c.loop-j.invariant (omega arith) c.member.ensures (ap not c.if-not-member.false)

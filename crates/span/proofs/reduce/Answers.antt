@@ -1,4 +1,4 @@
--- `span::reduce` meets its contract. The loop's invariant is Reducing of proofs/Reduction, its measure n.
+-- `span::reduce` meets its contract. The loop's invariant is Reducing of proofs/Reduction.
 use native.Mathlib.Omega.{arith}
 use Rattle.span.proofs.Reduction.{reduce_start, reduce_asked, reduce_clear, reduce_skip, reduce_end}
 use Rattle.span.proofs.reduce.Goals as goal
@@ -6,23 +6,11 @@ use Rattle.span.proofs.reduce.Goals as goal
 pub loop-n-init : goal.loop-n-init
 loop-n-init c = reduce_start c.requires
 
-pub overflow_sub-n : goal.overflow_sub-n
-overflow_sub-n c = omega arith
-
-pub bounds-d-j : goal.bounds-d-j
-bounds-d-j c = omega arith
-
 pub clear-requires : goal.clear-requires
 clear-requires c = reduce_asked c.loop-n.invariant (omega arith) c.if-e-n.true
 
-pub loop-n-smaller-then-e-n : goal.loop-n-smaller-then-e-n
-loop-n-smaller-then-e-n c = omega arith
-
 pub loop-n-preserved-then-e-n : goal.loop-n-preserved-then-e-n
 loop-n-preserved-then-e-n c = reduce_clear c.loop-n.invariant (omega arith) c.if-e-n.true c.clear.ensures
-
-pub loop-n-smaller : goal.loop-n-smaller
-loop-n-smaller c = omega arith
 
 pub loop-n-preserved : goal.loop-n-preserved
 loop-n-preserved c = reduce_skip c.loop-n.invariant (omega arith) c.if-e-n.false

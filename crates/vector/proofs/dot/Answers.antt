@@ -1,4 +1,4 @@
--- `vector::dot` meets its contract. The loop's invariant: r is the sum up to n; its measure: to − n.
+-- `vector::dot` meets its contract. The loop's invariant: r is the sum up to n.
 use mathlib.Core.Path.{◌≡◌}
 use Prim.Native.Nat.{◌-◌}
 use native.Mathlib.Omega.{arith}
@@ -6,21 +6,16 @@ use Rattle.vector.proofs.Loop.{paired_start, paired_more, paired_end}
 use Rattle.vector.proofs.dot.Goals as goal
 
 pub loop-n-init : goal.loop-n-init
-loop-n-init c = (paired_start _ c.args.a.now c.args.b.now c.args.s c.args.from (omega (arith, c.requires.a_vec.below 0)), omega arith, omega arith)
+loop-n-init c = (paired_start _ c.args.a.now c.args.b.now c.args.s c.args.from (omega (arith, c.requires.a_vec.below 0)), omega arith)
 
 pub mul_add-r-requires : goal.mul_add-r-requires
 mul_add-r-requires c =
-    record
-    { below_1 = c.requires.a_vec.below _; below_2 = c.requires.b_vec.below _; below_3 = c.loop-n.invariant.0.below }
+    record { below_1 = c.requires.a_vec.below _; below_2 = c.requires.b_vec.below _; below_3 = c.loop-n.invariant.0.below }
 
 pub loop-n-preserved : goal.loop-n-preserved
 loop-n-preserved c =
-    let a = c.args in (
-      paired_more a.a.now a.b.now a.s a.from _ c.loop-n.invariant.1
-          c.loop-n.invariant.0 c.mul_add-r.ensures,
-      omega arith,
-      omega arith,
-    )
+    let a = c.args in
+    (paired_more a.a.now a.b.now a.s a.from c.loop-n.n (omega arith) c.loop-n.invariant.0 c.mul_add-r.ensures, omega arith)
 
 pub returns : goal.returns
 returns c =

@@ -1,10 +1,7 @@
--- `vector::scale` meets its contract. The loop's invariant: what it ensures holds for the numbers below i; its measure: e − i.
-use Prim.Native.Nat.{◌≤◌, ◌-◌}
+-- `vector::scale` meets its contract. The loop's invariant: what it ensures holds for the numbers seen so far, the rest put behind them.
+use Rattle.std.proofs.Common.{◌++◌, drop}
 use Rattle.vector.specs.Contract.{Scaled}
 use Rattle.vector.proofs.scale.Given as goal
 
-abbrev pub invariant-loop-i : goal.invariant-loop-i
-invariant-loop-i l = Scaled l.p l.initial.v l.c l.i l.v × (l.i ≤ l.e)
-
-abbrev pub decreases-loop-i : goal.decreases-loop-i
-decreases-loop-i l = l.e - l.i
+abbrev pub invariant-loop-a : goal.invariant-loop-a
+invariant-loop-a l = Scaled l.p l.fn.v l.c l.a-index (l.a-items ++ drop l.e l.fn.v)

@@ -1,13 +1,10 @@
--- `triple::insert` meets its contract. The loop's invariant is Inserting of proofs/Insertion, its measure the sum of the degrees and n.
+-- `Triple::insert` meets its contract. The loop's invariant is Inserting of proofs/Insertion, its measure the sum of the degrees and n.
 use native.Mathlib.Omega.{arith}
 use Rattle.triple.proofs.Insertion.{insert_start, insert_asked, insert_more, insert_end}
-use Rattle.triple.proofs.insert.Goals as goal
+use Rattle.triple.proofs.Triple.insert.Goals as goal
 
 pub loop-n-init : goal.loop-n-init
 loop-n-init c = insert_start c.requires
-
-pub overflow_sub-n : goal.overflow_sub-n
-overflow_sub-n c = omega arith
 
 pub turn-n-requires : goal.turn-n-requires
 turn-n-requires c = insert_asked c.loop-n.invariant c.loop-n-test.true
