@@ -3,7 +3,7 @@
 --   formulas_sum           where they serve, they give the sum
 --   formulas_fail          where they do not serve, the sum is another one
 --   first-other, second-other      they say nothing of a divisor of another kind
-use mathlib.Core.Path.{◌≡◌, sym, subst, subst₂}
+use mathlib.Core.Path.{◌≡◌, sym, ◌∙◌, subst, subst₂}
 use mathlib.Core.Bool.{true, false, false≢true}
 use Rattle.ideal.specs.Ideal.{Product}
 use Rattle.ideal.specs.Reduced.{IsReduced}
@@ -12,18 +12,17 @@ use Rattle.triple.specs.Setting.{Setting, ring, poles_of}
 use Rattle.ground.specs.declared.Ground.{Ground}
 use Rattle.basis.specs.declared.Divisor.{Divisor}
 use Rattle.basis.specs.Divisor.{residues, BasisValue}
-use Rattle.basis.proofs.Choice.{only}
 use Rattle.usual.specs.declared.Tried.{Tried}
 use Rattle.usual.specs.Trial.{TriedAsked, TriedOf, Summed}
 use Rattle.group.specs.Contract.{IsDivisor, SumAsked, SumIs, SumOf, TriedSumOf}
 
-module _ {g : Ground} {a b : Divisor} (ka : a.kind ≡ 31) (kb : b.kind ≡ 31) where
+module _ {g : Ground} {a b : Divisor} (ka : a.kind ≡ k31) (kb : b.kind ≡ k31) where
   module _ (A : SumAsked g a b) where
     abbrev S : Setting g.p
     S = A.grounded.ready.setting
 
-    kind_31 : {r : Divisor} (D : IsDivisor S r) → r.kind ≡ 31 → k31 ≡ D.kind
-    kind_31 D e = only D.kind k31 e D.based.shaped
+    kind_31 : {r : Divisor} (D : IsDivisor S r) → r.kind ≡ k31 → k31 ≡ D.kind
+    kind_31 D e = sym e ∙ D.based.shaped.kind
 
     pub formulas_tried : TriedAsked g a b
     formulas_tried =
@@ -48,8 +47,8 @@ module _ {g : Ground} {a b s : Divisor} (h : SumOf g a b s) where
   pub formulas_fail : {t : Tried} → TriedOf g a b t → t.served ≡ false → TriedSumOf g a b (record { served = false; sum = s })
   formulas_fail T e = record { sum = h; tried = λ A. record { yes = λ f. absurd (false≢true f); no = λ _. (T A).no e } }
 
-  pub first-other : ¬ (a.kind ≡ 31) → TriedSumOf g a b (record { served = false; sum = s })
+  pub first-other : ¬ (a.kind ≡ k31) → TriedSumOf g a b (record { served = false; sum = s })
   first-other n = record { sum = h; tried = λ A. absurd (n A.a_is.shaped.kind) }
 
-  pub second-other : ¬ (b.kind ≡ 31) → TriedSumOf g a b (record { served = false; sum = s })
+  pub second-other : ¬ (b.kind ≡ k31) → TriedSumOf g a b (record { served = false; sum = s })
   second-other n = record { sum = h; tried = λ A. absurd (n A.b_is.shaped.kind) }

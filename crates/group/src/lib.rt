@@ -5,6 +5,7 @@ ghost use Rattle.group.specs.Contract.{NegativeAsked, NegativeOf, SumAsked, SumO
 
 use basis::Divisor;
 use ground::Ground;
+use kind::Kind;
 use usual::Tried;
 
 // I*, for the ideal I of a.
@@ -23,14 +24,14 @@ pub fn tried(g: Ground, a: Divisor, b: Divisor) -> Tried
     requires { SumAsked g a b }
     ensures { TriedSumOf g a b result }
 {
-    if a.kind != 31 {
+    if a.kind != Kind::K31 {
         let s = by_product(g, a, b);
         return Tried {
             served: false,
             sum: s,
         };
     }
-    if b.kind != 31 {
+    if b.kind != Kind::K31 {
         let s = by_product(g, a, b);
         return Tried {
             served: false,
@@ -62,10 +63,10 @@ pub fn by_product(g: Ground, a: Divisor, b: Divisor) -> Divisor
     requires { SumAsked g a b }
     ensures { SumOf g a b result }
 {
-    if a.kind == 0 {
+    if a.kind == Kind::Zero {
         return b;
     }
-    if b.kind == 0 {
+    if b.kind == Kind::Zero {
         return a;
     }
     let s = product_star(g, a, b);

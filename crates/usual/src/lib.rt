@@ -13,6 +13,7 @@ use barrett::Divider;
 use basis::Divisor;
 use entries::Lower;
 use ground::Ground;
+use kind::Kind;
 use matrix::Column;
 
 // Whether the formulas serve, and the sum if they do.
@@ -34,7 +35,7 @@ fn completed(p: u32, by: Divider, o: Lower, n: Divisor, s: Column, t: Column, i:
     let b = formulas::body_of(p, by, o, u, v, s.y, h, i);
     let l = formulas::last_of(p, by, h, b, i);
     Divisor {
-        kind: 31,
+        kind: Kind::K31,
         n0: b.f0,
         n1: b.f1,
         n2: h.f2,
