@@ -1,7 +1,7 @@
 -- The kinds of divisor records. Document 01, "Records", has the table: number, count, remaining monomials.
 --   code κ             the number that stands for the kind in a record
 --   count κ            how many numbers its record has
---   degree κ           the degree of its divisors: how many monomials remain
+--   degree_of κ        the degree of its divisors: how many monomials remain
 --   Known n            n is the number of a kind
 --   KindOf n r         r is the kind with the number n, or an error with n, which no kind has
 use Rattle.std.specs.Prelude.{◌≡◌, ℕ, Result, MatchResult}
@@ -23,12 +23,12 @@ count K21 = 4
 count K22 = 3
 count K31 = 9
 
-abbrev pub degree : Kind → ℕ
-degree Zero = 0
-degree K11 = 1
-degree K21 = 2
-degree K22 = 2
-degree K31 = 3
+abbrev pub degree_of : Kind → ℕ
+degree_of Zero = 0
+degree_of K11 = 1
+degree_of K21 = 2
+degree_of K22 = 2
+degree_of K31 = 3
 
 abbrev pub Known : ℕ → Type 0
 Known n = (κ : Kind) × (n ≡ code κ)

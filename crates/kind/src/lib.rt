@@ -2,7 +2,7 @@
 #![tactic(auto)]
 
 ghost use Rattle.std.specs.Prelude.{◌≡◌};
-ghost use Rattle.kind.specs.Kinds.{code, count, degree, KindOf};
+ghost use Rattle.kind.specs.Kinds.{code, count, degree_of, KindOf};
 
 // The kind of a divisor record: of the zero class, or the kind with the number in its name.
 #[derive(Clone, Copy, Debug, PartialEq, Eq)]
@@ -58,7 +58,7 @@ impl Kind {
 
     // The degree of a divisor of this kind: how many monomials remain.
     pub fn degree(self) -> usize
-        ensures { result ≡ degree self }
+        ensures { result ≡ degree_of self }
     {
         match self {
             Kind::Zero => 0,
