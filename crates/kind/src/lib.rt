@@ -1,7 +1,7 @@
 // The kinds of divisor records: their numbers, how many numbers a record of each has, and the degree of its divisors.
 #![tactic(auto)]
 
-ghost use Rattle.std.specs.Prelude.{◌≡◌};
+ghost use Rattle.std.specs.Prelude.{◌≡◌, ◌≤◌};
 ghost use Rattle.kind.specs.Kinds.{code, count, degree_of, KindOf};
 
 // The kind of a divisor record: of the zero class, or the kind with the number in its name.
@@ -45,7 +45,8 @@ impl Kind {
 
     // How many numbers a record of this kind has.
     pub fn count(self) -> usize
-        ensures { result ≡ count self }
+        ensures is { result ≡ count self }
+        ensures small { result ≤ 9 }
     {
         match self {
             Kind::Zero => 0,
