@@ -7,11 +7,12 @@ ghost use Rattle.vector.specs.Vector.{width};
 ghost use Rattle.basis.specs.Divisor.{of_four, divisor_0};
 ghost use Rattle.basis.specs.Contract.{coefficients, IsTriple, TripleOf, BasisAsked, BasisTest};
 
+use kind::Kind;
 use triple::Triple;
 
 #[derive(Clone, Copy)]
 pub struct Divisor {
-    pub kind: u32,
+    pub kind: Kind,
     pub n0: u32,
     pub n1: u32,
     pub n2: u32,
@@ -24,7 +25,7 @@ pub struct Divisor {
 }
 
 // The divisor of a kind that has four numbers at most.
-pub fn of_four(kind: u32, n0: u32, n1: u32, n2: u32, n3: u32) -> Divisor
+pub fn of_four(kind: Kind, n0: u32, n1: u32, n2: u32, n3: u32) -> Divisor
     ensures { result ≡ of_four kind n0 n1 n2 n3 }
 {
     Divisor {
@@ -41,11 +42,11 @@ pub fn of_four(kind: u32, n0: u32, n1: u32, n2: u32, n3: u32) -> Divisor
     }
 }
 
-// The divisor of the kind 0: the zero class.
+// The zero class.
 pub fn zero_class() -> Divisor
     ensures { result ≡ divisor_0 }
 {
-    of_four(0, 0, 0, 0, 0)
+    of_four(Kind::Zero, 0, 0, 0, 0)
 }
 
 // The monic vector of degree m with the lower terms a7·xy + a4·y + a3·x + a0.
@@ -66,16 +67,12 @@ fn polynomial(m: usize, a0: u32, a3: u32, a4: u32, a7: u32) -> [u32; 26]
 pub fn triple_of(r: Divisor) -> Triple
     ensures { TripleOf r result.rows result.degrees }
 {
-    if r.kind == 0 {
-        triple_0(r)
-    } else if r.kind == 11 {
-        triple_11(r)
-    } else if r.kind == 21 {
-        triple_21(r)
-    } else if r.kind == 22 {
-        triple_22(r)
-    } else {
-        triple_31(r)
+    match r.kind {
+        Kind::Zero => triple_0(r),
+        Kind::K11 => triple_11(r),
+        Kind::K21 => triple_21(r),
+        Kind::K22 => triple_22(r),
+        Kind::K31 => triple_31(r),
     }
 }
 

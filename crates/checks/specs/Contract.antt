@@ -1,11 +1,12 @@
 -- What the functions on the numbers of records require and ensure.
 --   AllBelow p ns          every number of ns is below p
 --   Word s i n             n is the four-byte number at place i of s; 0 if it is not whole
---   ValueOf s r            r has the kind and the numbers of s, 0 for a number that s has not
+--   ValueOf κ s r          r has the kind κ and the numbers of s, 0 for a number that s has not
 --   equation_numbers e, coefficient_of e i     the nine coefficients of an equation, and the i-th of them
 --   equation_value s       the equation by value of a curve's bytes
 use Rattle.std.specs.Prelude.{◌≡◌, List, [], ◌∷◌, ℕ, ◌+◌, ◌*◌, ◌<◌, ◌≤◌, length, get_or}
-use Rattle.layout.specs.Layout.{number2, number4}
+use Rattle.layout.specs.Layout.{number4}
+use Rattle.kind.specs.declared.Kind.{Kind}
 use Rattle.equation.specs.declared.Equation.{Equation}
 use Rattle.basis.specs.Divisor.{numbers_of}
 use Rattle.basis.specs.declared.Divisor.{Divisor}
@@ -19,8 +20,8 @@ pub record Word (s : List ℕ) (i n : ℕ) : Type 0 where
   pub is : i + 4 ≤ length s → n ≡ number4 s i
   pub past : length s < i + 4 → n ≡ 0
 
-pub record ValueOf (s : List ℕ) (r : Divisor) : Type 0 where
-  pub kind : r.kind ≡ number2 s 2
+pub record ValueOf (κ : Kind) (s : List ℕ) (r : Divisor) : Type 0 where
+  pub kind : r.kind ≡ κ
   pub number : (i : ℕ) → i < 9 → Word s (4 + 4 * i) (get_or (numbers_of r) i 0)
 
 abbrev pub equation_numbers : Equation → List ℕ

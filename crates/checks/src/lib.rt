@@ -8,6 +8,7 @@ ghost use Rattle.checks.specs.Contract.{AllBelow, Word, ValueOf, coefficient_of,
 
 use basis::Divisor;
 use equation::Equation;
+use kind::Kind;
 
 // Are the three numbers below p?
 fn three_below(p: u32, a: u32, b: u32, c: u32) -> bool
@@ -69,13 +70,12 @@ fn word(s: &[u8], at: usize) -> u32
     0
 }
 
-// The kind and the numbers of a divisor record.
-pub fn value(s: &[u8]) -> Divisor
-    requires { 4 ≤ length s.now }
-    ensures { ValueOf s.now result }
+// The divisor of a kind with the numbers of a divisor record.
+pub fn value(kind: Kind, s: &[u8]) -> Divisor
+    ensures { ValueOf kind s.now result }
 {
     Divisor {
-        kind: layout::read_u16(s, 2),
+        kind,
         n0: word(s, 4),
         n1: word(s, 8),
         n2: word(s, 12),

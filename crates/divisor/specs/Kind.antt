@@ -7,7 +7,7 @@
 --   22              16      f0, g0, g1            x + f0; y² + g1·y + g0                        1, y
 --   31              40      f0, f1, f2, g0, …, h2 x² + f2·y + f1·x + f0; xy + g2·y + g1·x + g0; y² + h2·y + h1·x + h0     1, x, y
 --
---   Kind, code κ, count κ       the five kinds, the kind's number, how many numbers its record has
+--   Kind, code κ, count κ       the five kinds k0, k11, k21, k22, k31, the kind's number, how many numbers its record has (crate kind)
 --   size κ                      how many bytes its record has
 --   polynomials C κ n           the polynomials of a record
 --   remaining C κ               the remaining monomials
@@ -18,23 +18,9 @@ use Rattle.std.specs.Prelude.{◌≡◌, List, [], ◌∷◌, ℕ, ◌+◌, ◌*
 use Rattle.algebra.specs.Ring.{CommRing}
 use Rattle.ideal.specs.Ideal.{Generated}
 use Rattle.curve.specs.Curve.{Curve, Coordinate, x, y, constant}
-
-pub data Kind : Type 0 where
-  k0 k11 k21 k22 k31 : Kind
-
-abbrev pub code : Kind → ℕ
-code k0 = 0
-code k11 = 11
-code k21 = 21
-code k22 = 22
-code k31 = 31
-
-abbrev pub count : Kind → ℕ
-count k0 = 0
-count k11 = 2
-count k21 = 4
-count k22 = 3
-count k31 = 9
+pub use Rattle.kind.specs.declared.Kind.{Kind}
+pub use Rattle.kind.specs.declared.Kind.TheVariants.{Zero as k0, K11 as k11, K21 as k21, K22 as k22, K31 as k31}
+pub use Rattle.kind.specs.Kinds.{code, count}
 
 -- the length of a record of this kind: two bytes of length, two of kind, four for each number
 abbrev pub size : Kind → ℕ

@@ -11,6 +11,7 @@ ghost use Rattle.eliminants.specs.Contract.{EliminantAsked, EliminantAtAsked, In
 ghost use Rattle.eliminants.specs.Parts.{Stands, InY31};
 
 use basis::Divisor;
+use kind::Kind;
 use roots::Cubic;
 
 // A polynomial in x that lies in the ideal of the divisor.
@@ -18,39 +19,27 @@ pub fn in_x(p: u32, r: Divisor) -> Cubic
     requires { EliminantAsked p r }
     ensures { InX p r result }
 {
-    if r.kind == 0 {
-        return Cubic {
+    match r.kind {
+        Kind::Zero => Cubic {
             c0: 1,
             c1: 0,
             c2: 0,
             c3: 0,
-        };
-    }
-    if r.kind == 11 {
-        return Cubic {
+        },
+        Kind::K11 | Kind::K22 => Cubic {
             c0: r.n0,
             c1: 1,
             c2: 0,
             c3: 0,
-        };
-    }
-    if r.kind == 21 {
-        return Cubic {
+        },
+        Kind::K21 => Cubic {
             c0: r.n2,
             c1: r.n3,
             c2: 1,
             c3: 0,
-        };
+        },
+        Kind::K31 => in_x_31(p, r),
     }
-    if r.kind == 22 {
-        return Cubic {
-            c0: r.n0,
-            c1: 1,
-            c2: 0,
-            c3: 0,
-        };
-    }
-    in_x_31(p, r)
 }
 
 // t³ + (f1 + g2)·t² + (f0 + f1·g2 − f2·g1)·t + (f0·g2 − f2·g0), which is (x + g2)·f − f2·g
@@ -71,40 +60,33 @@ pub fn in_y(p: u32, r: Divisor, a: u32) -> Cubic
     requires { EliminantAtAsked p r a }
     ensures { InY p r a result }
 {
-    if r.kind == 0 {
-        return Cubic {
+    match r.kind {
+        Kind::Zero => Cubic {
             c0: 1,
             c1: 0,
             c2: 0,
             c3: 0,
-        };
-    }
-    if r.kind == 11 {
-        return Cubic {
+        },
+        Kind::K11 => Cubic {
             c0: r.n1,
             c1: 1,
             c2: 0,
             c3: 0,
-        };
-    }
-    if r.kind == 21 {
-        let c0 = field::mul_add(p, r.n1, a, r.n0);
-        return Cubic {
-            c0,
+        },
+        Kind::K21 => Cubic {
+            c0: field::mul_add(p, r.n1, a, r.n0),
             c1: 1,
             c2: 0,
             c3: 0,
-        };
-    }
-    if r.kind == 22 {
-        return Cubic {
+        },
+        Kind::K22 => Cubic {
             c0: r.n1,
             c1: r.n2,
             c2: 1,
             c3: 0,
-        };
+        },
+        Kind::K31 => in_y_31(p, r, a),
     }
-    in_y_31(p, r, a)
 }
 
 // f2·t + (a + f1)·a + f0 where f2 is not 0, and else t² + h2·t + h1·a + h0

@@ -7,6 +7,8 @@ ghost use Rattle.record.specs.Curve.{curve_form};
 ghost use Rattle.record.specs.Divisor.{divisor_form};
 ghost use Rattle.form.specs.Contract.{Checked};
 
+use kind::Kind;
+
 // Is the length field that of the bytes given? It serves every record, whatever its kind.
 pub fn sized(s: &[u8]) -> bool
     ensures { Answers (Sized s.now) result }
@@ -46,10 +48,10 @@ pub fn divisor_form(s: &[u8]) -> u8
         return 6;
     }
     let code = layout::read_u16(s, 2);
-    if !kind::is_kind(code) {
+    let Ok(kind) = Kind::try_from(code) else {
         return 7;
-    }
-    let size = 4 + 4 * kind::count_of(code);
+    };
+    let size = 4 + 4 * kind.count();
     if s.len() != size {
         return 6;
     }

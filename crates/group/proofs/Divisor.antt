@@ -26,7 +26,6 @@ use Rattle.basis.specs.declared.Divisor.{Divisor}
 use Rattle.basis.specs.Divisor.{residues}
 use Rattle.basis.specs.Contract.{Tripled, TripleOf}
 use Rattle.basis.proofs.Ideal.{based_ideal, based-same}
-use Rattle.basis.proofs.Choice.{only}
 use Rattle.group.specs.Contract.{IsDivisor, ideal, ZeroClass}
 
 module _ {p : ℕ} (S : Setting p) {r : Divisor} (D : IsDivisor S r) where
@@ -46,9 +45,9 @@ module _ {p : ℕ} (S : Setting p) {r : Divisor} (D : IsDivisor S r) where
     pub divisor-same : SameIdeal (ring S) (Spanned S t) (ideal S r D)
     divisor-same = based-same divisor_tripled S D.based.basis
 
-  pub kind-zero : r.kind ≡ 0 → SameIdeal (ring S) (λ _. Unit) (ideal S r D)
+  pub kind-zero : r.kind ≡ k0 → SameIdeal (ring S) (λ _. Unit) (ideal S r D)
   kind-zero e =
-      subst (λ κ. SameIdeal (ring S) (λ _. Unit) (IdealOf S.curve κ (residues p r))) (only D.kind k0 e D.based.shaped) (zero-whole (F p S.prime) S.curve S.nonzero (residues p r))
+      subst (λ κ. SameIdeal (ring S) (λ _. Unit) (IdealOf S.curve κ (residues p r))) (sym e ∙ D.based.shaped.kind) (zero-whole (F p S.prime) S.curve S.nonzero (residues p r))
 
 pub zero-divisor : {p : ℕ} (S : Setting p) {r : Divisor} → ZeroClass r → IsDivisor S r
 zero-divisor {p} S {r} z =

@@ -2,7 +2,7 @@
 --   formulas_tried         the formulas may be tried for two divisors of kind 31
 --   formulas_sum           what they give is the sum
 --   first-other, second-other      they say nothing of a divisor of another kind
-use mathlib.Core.Path.{◌≡◌, sym, subst, subst₂}
+use mathlib.Core.Path.{◌≡◌, sym, ◌∙◌, subst, subst₂}
 use Rattle.std.specs.Prelude.{Option, Some, None, IfSome}
 use Rattle.ideal.specs.Ideal.{Product}
 use Rattle.ideal.specs.Reduced.{IsReduced}
@@ -11,17 +11,16 @@ use Rattle.triple.specs.Setting.{Setting, ring, poles_of}
 use Rattle.ground.specs.declared.Ground.{Ground}
 use Rattle.basis.specs.declared.Divisor.{Divisor}
 use Rattle.basis.specs.Divisor.{residues, BasisValue}
-use Rattle.basis.proofs.Choice.{only}
 use Rattle.usual.specs.Trial.{TriedAsked, TriedOf, Summed}
 use Rattle.group.specs.Contract.{IsDivisor, SumAsked, SumIs, SumOf, TriedSumOf}
 
-module _ {g : Ground} {a b : Divisor} (ka : a.kind ≡ 31) (kb : b.kind ≡ 31) where
+module _ {g : Ground} {a b : Divisor} (ka : a.kind ≡ k31) (kb : b.kind ≡ k31) where
   module _ (A : SumAsked g a b) where
     abbrev S : Setting g.p
     S = A.grounded.ready.setting
 
-    kind_31 : {r : Divisor} (D : IsDivisor S r) → r.kind ≡ 31 → k31 ≡ D.kind
-    kind_31 D e = only D.kind k31 e D.based.shaped
+    kind_31 : {r : Divisor} (D : IsDivisor S r) → r.kind ≡ k31 → k31 ≡ D.kind
+    kind_31 D e = sym e ∙ D.based.shaped.kind
 
     pub formulas_tried : TriedAsked g a b
     formulas_tried =
@@ -47,8 +46,8 @@ module _ {g : Ground} {a b : Divisor} (ka : a.kind ≡ 31) (kb : b.kind ≡ 31) 
       sum (Some s) T = λ A. formulas_is A (T (formulas_tried A)).yes
 
 module _ {g : Ground} {a b : Divisor} where
-  pub first-other : ¬ (a.kind ≡ 31) → TriedSumOf g a b None
+  pub first-other : ¬ (a.kind ≡ k31) → TriedSumOf g a b None
   first-other n = record { sum = tt; tried = λ A. absurd (n A.a_is.shaped.kind) }
 
-  pub second-other : ¬ (b.kind ≡ 31) → TriedSumOf g a b None
+  pub second-other : ¬ (b.kind ≡ k31) → TriedSumOf g a b None
   second-other n = record { sum = tt; tried = λ A. absurd (n A.b_is.shaped.kind) }

@@ -11,6 +11,7 @@ use Rattle.ideal.proofs.Class.{equivalent_same}
 use Rattle.ideal.proofs.Product.{product-same, product_comm, product-unit}
 use Rattle.ideal.proofs.Reduced.{star-star, equivalent_reduced, reduced_equivalent}
 use Rattle.ideal.proofs.Finite.{product-based}
+use Rattle.divisor.specs.Kind.{k0}
 use Rattle.triple.specs.Setting.{Setting, ring, poles_of}
 use Rattle.ground.specs.declared.Ground.{Ground}
 use Rattle.basis.specs.declared.Divisor.{Divisor}
@@ -26,17 +27,17 @@ sum_of h n A =
     (r.0, star-star (poles_of A.grounded.ready.setting) (h A).1 r.1)
 
 module _ {p : ℕ} (S : Setting p) {a b : Divisor} (D : IsDivisor S a) (E : IsDivisor S b) where
-  whole-times : a.kind ≡ 0 → SameIdeal (ring S) (Product (ring S) (ideal S a D) (ideal S b E)) (ideal S b E)
+  whole-times : a.kind ≡ k0 → SameIdeal (ring S) (Product (ring S) (ideal S a D) (ideal S b E)) (ideal S b E)
   whole-times e =
       same_trans (ring S) (product-same (ring S) (same_sym (ring S) (kind-zero S D e)) (same_refl (ring S) (ideal S b E))) (product-unit (ring S) (divisor_footprint S E).ideal)
 
 module _ {g : Ground} {a b : Divisor} where
-  pub sum_left : a.kind ≡ 0 → SumOf g a b b
+  pub sum_left : a.kind ≡ k0 → SumOf g a b b
   sum_left e A =
       let S = A.grounded.ready.setting in
       (A.b_is, equivalent_reduced (poles_of S) (divisor_footprint S A.b_is) (equivalent_same (poles_of S) (whole-times S A.a_is A.b_is e)))
 
-  pub sum-right : b.kind ≡ 0 → SumOf g a b a
+  pub sum-right : b.kind ≡ k0 → SumOf g a b a
   sum-right e A =
       let S = A.grounded.ready.setting in
       (A.a_is, equivalent_reduced (poles_of S) (divisor_footprint S A.a_is) (equivalent_same (poles_of S) (same_trans (ring S) (product_comm (ring S)) (whole-times S A.b_is A.a_is e))))

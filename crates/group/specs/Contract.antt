@@ -9,7 +9,7 @@
 use Rattle.std.specs.Prelude.{◌≡◌, ℕ, replicate, Option, IfSome}
 use Rattle.ideal.specs.Ideal.{Product}
 use Rattle.ideal.specs.Reduced.{IsStar, IsReduced}
-use Rattle.divisor.specs.Kind.{Kind, IdealOf}
+use Rattle.divisor.specs.Kind.{Kind, k0, IdealOf}
 use Rattle.triple.specs.Setting.{Setting, ring, poles_of}
 use Rattle.ground.specs.declared.Ground.{Ground}
 use Rattle.ground.specs.Ground.{Grounded}
@@ -59,5 +59,5 @@ ProductStarOf g a b r =
     (D : IsDivisor S r) × IsStar (poles_of S) (Product (ring S) (ideal S a A.a_is) (ideal S b A.b_is)) (ideal S r D)
 
 pub record ZeroClass (r : Divisor) : Type 0 where
-  pub kind : r.kind ≡ 0
+  pub kind : r.kind ≡ k0
   pub none : numbers_of r ≡ replicate 9 0

@@ -5,6 +5,7 @@ ghost use Rattle.group.specs.Contract.{NegativeAsked, NegativeOf, SumAsked, SumO
 
 use basis::Divisor;
 use ground::Ground;
+use kind::Kind;
 
 // I*, for the ideal I of a.
 pub fn negative(g: Ground, a: Divisor) -> Divisor
@@ -20,10 +21,10 @@ pub fn tried(g: Ground, a: Divisor, b: Divisor) -> Option<Divisor>
     requires { SumAsked g a b }
     ensures { TriedSumOf g a b result }
 {
-    if a.kind != 31 {
+    if a.kind != Kind::K31 {
         return None;
     }
-    if b.kind != 31 {
+    if b.kind != Kind::K31 {
         return None;
     }
     usual::sum_tried(g, a, b)
@@ -45,10 +46,10 @@ pub fn by_product(g: Ground, a: Divisor, b: Divisor) -> Divisor
     requires { SumAsked g a b }
     ensures { SumOf g a b result }
 {
-    if a.kind == 0 {
+    if a.kind == Kind::Zero {
         return b;
     }
-    if b.kind == 0 {
+    if b.kind == Kind::Zero {
         return a;
     }
     let s = product_star(g, a, b);

@@ -1,2 +1,2 @@
--- The kinds of divisor records by their numbers.
+-- The kinds of divisor records.
 pub mod Kinds

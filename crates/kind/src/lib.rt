@@ -1,46 +1,71 @@
-// The kinds of divisor records by their numbers, and how many numbers a record of each kind has.
+// The kinds of divisor records: their numbers, how many numbers a record of each has, and the degree of its divisors.
 #![tactic(auto)]
 
-ghost use Rattle.algebra.specs.Answers.{Answers};
-ghost use Rattle.kind.specs.Kinds.{Known, CountOf};
+ghost use Rattle.std.specs.Prelude.{◌≡◌, ◌≤◌};
+ghost use Rattle.kind.specs.Kinds.{code, count, degree_of, KindOf};
 
-// Is this the number of a divisor kind?
-pub fn is_kind(kind: u32) -> bool
-    ensures { Answers (Known kind) result }
-{
-    if kind == 0 {
-        return true;
-    }
-    if kind == 11 {
-        return true;
-    }
-    if kind == 21 {
-        return true;
-    }
-    if kind == 22 {
-        return true;
-    }
-    if kind == 31 {
-        return true;
-    }
-    false
+// The kind of a divisor record: of the zero class, or the kind with the number in its name.
+#[derive(Clone, Copy, Debug, PartialEq, Eq)]
+pub enum Kind {
+    Zero = 0,
+    K11 = 11,
+    K21 = 21,
+    K22 = 22,
+    K31 = 31,
 }
 
-// How many numbers a record of this kind has.
-pub fn count_of(kind: u32) -> usize
-    ensures { CountOf kind result }
-{
-    if kind == 0 {
-        return 0;
+// A number that no kind has.
+#[derive(Clone, Copy, Debug, PartialEq, Eq)]
+pub struct UnknownKind(pub u32);
+
+impl TryFrom<u32> for Kind {
+    type Error = UnknownKind;
+
+    ghost try_from_gives = { KindOf };
+
+    fn try_from(code: u32) -> Result<Self, UnknownKind> {
+        match code {
+            0 => Ok(Kind::Zero),
+            11 => Ok(Kind::K11),
+            21 => Ok(Kind::K21),
+            22 => Ok(Kind::K22),
+            31 => Ok(Kind::K31),
+            _ => Err(UnknownKind(code)),
+        }
     }
-    if kind == 11 {
-        return 2;
+}
+
+impl Kind {
+    // The number that stands for the kind in a record.
+    pub fn code(self) -> u32
+        ensures { result ≡ code self }
+    {
+        self as u32
     }
-    if kind == 21 {
-        return 4;
+
+    // How many numbers a record of this kind has.
+    pub fn count(self) -> usize
+        ensures is { result ≡ count self }
+        ensures small { result ≤ 9 }
+    {
+        match self {
+            Kind::Zero => 0,
+            Kind::K11 => 2,
+            Kind::K21 => 4,
+            Kind::K22 => 3,
+            Kind::K31 => 9,
+        }
     }
-    if kind == 22 {
-        return 3;
+
+    // The degree of a divisor of this kind: how many monomials remain.
+    pub fn degree(self) -> usize
+        ensures { result ≡ degree_of self }
+    {
+        match self {
+            Kind::Zero => 0,
+            Kind::K11 => 1,
+            Kind::K21 | Kind::K22 => 2,
+            Kind::K31 => 3,
+        }
     }
-    9
 }

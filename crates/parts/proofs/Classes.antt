@@ -12,7 +12,7 @@ use Rattle.prime_field.specs.Field.{F}
 use Rattle.ideal.specs.Poles.{HasPole}
 use Rattle.ideal.specs.Reduced.{Least}
 use Rattle.ideal.proofs.Degree.{monic-pole}
-use Rattle.divisor.specs.Kind.{Kind, code}
+use Rattle.divisor.specs.Kind.{Kind, k21, k22}
 use Rattle.divisor.proofs.Table.{degree, kind_by, class_by, degree_bound}
 use Rattle.divisor.proofs.Members.{member, member-monic, spanned-each, spanned-ideal_of}
 use Rattle.divisor.proofs.Basis.{lead-basis}
@@ -26,53 +26,41 @@ use Rattle.combination.specs.declared.Polynomial.{Polynomial}
 use Rattle.parts.specs.declared.Places.{Places}
 use Rattle.parts.specs.Contract.{PlacesOf, LeastOf}
 
-pub places_21 : {kind : ℕ} → kind ≡ 21 → PlacesOf kind (record { first = 1; second = 0; third = 2 })
-places_21 {kind} e = record {
+-- every kind but 21 has its first polynomial in class 0
+low-zero : (κ : Kind) → ¬ (κ ≡ k21) → (j : ℕ) → j ≤ 2 → degree κ 0 ≤ degree κ j
+low-zero =
+    kind_by (λ κ. ¬ (κ ≡ k21) → (j : ℕ) → j ≤ 2 → degree κ 0 ≤ degree κ j)
+    (λ n. class_by _ (omega arith) (omega arith) (omega arith))
+    (λ n. class_by _ (omega arith) (omega arith) (omega arith))
+    (λ n. absurd (n refl))
+    (λ n. class_by _ (omega arith) (omega arith) (omega arith))
+    (λ n. class_by _ (omega arith) (omega arith) (omega arith))
+
+pub places_21 : PlacesOf k21 (record { first = 1; second = 0; third = 2 })
+places_21 = record {
   first_below = omega arith;
   second_below = omega arith;
   third_below = omega arith;
   all = λ j l. class_by (λ j. (j ≡ 1) ⊎ ((j ≡ 0) ⊎ (j ≡ 2))) (inr (inl refl)) (inl refl) (inr (inr refl)) j (omega arith);
-  lowest = λ κ q j l. low κ q j (omega arith);
+  lowest = λ j l. class_by (λ j. degree k21 1 ≤ degree k21 j) (omega arith) (omega arith) (omega arith) j (omega arith);
 }
-  where
-    low : (κ : Kind) → kind ≡ code κ → (j : ℕ) → j ≤ 2 → degree κ 1 ≤ degree κ j
-    low =
-        kind_by (λ κ. kind ≡ code κ → (j : ℕ) → j ≤ 2 → degree κ 1 ≤ degree κ j)
-        (λ q j l. absurd (omega arith))
-        (λ q j l. absurd (omega arith))
-        (λ q. class_by _ (omega arith) (omega arith) (omega arith))
-        (λ q j l. absurd (omega arith))
-        (λ q j l. absurd (omega arith))
 
--- every kind but 21 has its first polynomial in class 0
-low-zero : {kind : ℕ} → ¬ (kind ≡ 21) → (κ : Kind) → kind ≡ code κ → (j : ℕ) → j < 3 → degree κ 0 ≤ degree κ j
-low-zero {kind} n κ q j l = low κ q j (omega arith)
-  where
-    low : (κ : Kind) → kind ≡ code κ → (j : ℕ) → j ≤ 2 → degree κ 0 ≤ degree κ j
-    low =
-        kind_by (λ κ. kind ≡ code κ → (j : ℕ) → j ≤ 2 → degree κ 0 ≤ degree κ j)
-        (λ q. class_by _ (omega arith) (omega arith) (omega arith))
-        (λ q. class_by _ (omega arith) (omega arith) (omega arith))
-        (λ q j l. absurd (n q))
-        (λ q. class_by _ (omega arith) (omega arith) (omega arith))
-        (λ q. class_by _ (omega arith) (omega arith) (omega arith))
-
-pub places_22 : {kind : ℕ} → ¬ (kind ≡ 21) → PlacesOf kind (record { first = 0; second = 2; third = 1 })
-places_22 n = record {
+pub places_22 : PlacesOf k22 (record { first = 0; second = 2; third = 1 })
+places_22 = record {
   first_below = omega arith;
   second_below = omega arith;
   third_below = omega arith;
   all = λ j l. class_by (λ j. (j ≡ 0) ⊎ ((j ≡ 2) ⊎ (j ≡ 1))) (inl refl) (inr (inr refl)) (inr (inl refl)) j (omega arith);
-  lowest = low-zero n;
+  lowest = λ j l. low-zero k22 (λ e. absurd (cc)) j (omega arith);
 }
 
-pub places-other : {kind : ℕ} → ¬ (kind ≡ 21) → PlacesOf kind (record { first = 0; second = 1; third = 2 })
+pub places-other : {κ : Kind} → ¬ (κ ≡ k21) → PlacesOf κ (record { first = 0; second = 1; third = 2 })
 places-other n = record {
   first_below = omega arith;
   second_below = omega arith;
   third_below = omega arith;
   all = λ j l. class_by (λ j. (j ≡ 0) ⊎ ((j ≡ 1) ⊎ (j ≡ 2))) (inl refl) (inr (inl refl)) (inr (inr refl)) j (omega arith);
-  lowest = low-zero n;
+  lowest = λ j l. low-zero _ n j (omega arith);
 }
 
 pub value-pole : {p : ℕ} (S : Setting p) {u : Polynomial} → MonicValue p u → HasPole (poles_of S) (value S u) u.d
@@ -93,7 +81,7 @@ module _ {p : ℕ} (S : Setting p) {x : Divisor} (D : IsDivisor S x) where
   }
     where
       low : (n : ℕ) → degree D.kind (n % 3) ≤ n → degree D.kind q.first ≤ n
-      low n l = omega (arith, h.lowest D.kind D.based.shaped.kind (n % 3) (omega arith))
+      low n l = omega (arith, (subst (λ κ. PlacesOf κ q) D.based.shaped.kind h).lowest (n % 3) (omega arith))
 
   module _ {j : ℕ} {r : Polynomial} (m : MemberOf x j r) where
     pub member_is : MemberIs p D.kind x j r
@@ -105,6 +93,6 @@ module _ {p : ℕ} (S : Setting p) {x : Divisor} (D : IsDivisor S x) where
 pub least_is : {x : Divisor} {q : Places} {r : Polynomial} → PlacesOf x.kind q → MemberOf x q.first r → LeastOf x r
 least_is {x} {q} {r} h m p S D = record {
   monic = (member_is S D m).monic;
-  low = omega (arith, (member_is S D m).degree_is, h.lowest D.kind D.based.shaped.kind 0 (omega arith), degree_bound D.kind 0 (omega arith));
+  low = omega (arith, (member_is S D m).degree_is, (subst (λ κ. PlacesOf κ q) D.based.shaped.kind h).lowest 0 (omega arith), degree_bound D.kind 0 (omega arith));
   least = subst (Least (poles_of S) (ideal S x D)) (sym ((member_is S D m).value_is S.curve)) (member-least S D h);
 }

@@ -4,7 +4,7 @@
 --   star-least                     the ideal of a negative is (f : I), f the least element of I
 --   meet_asked, meet_of            the star of u·J* + v·N is the reduced ideal of (u : N) ∩ J
 --   multiple-asked, multiple_of    … that of I ∩ J, for N = I* and u the least element of I
-use mathlib.Core.Path.{sym, subst}
+use mathlib.Core.Path.{sym, ◌∙◌, subst}
 use Prim.Native.Nat.{ℕ}
 use native.Mathlib.Omega.{arith}
 use Rattle.ideal.specs.Ideal.{Colon, SameIdeal}
@@ -23,7 +23,6 @@ use Rattle.triple.specs.Setting.{Setting, ring, poles_of}
 use Rattle.ground.specs.declared.Ground.{Ground}
 use Rattle.basis.specs.declared.Divisor.{Divisor}
 use Rattle.basis.specs.Divisor.{Shaped}
-use Rattle.basis.proofs.Choice.{only}
 use Rattle.group.specs.Contract.{IsDivisor, ideal, NegativeAsked, NegativeOf, SumAsked, ZeroClass}
 use Rattle.group.proofs.Divisor.{divisor_footprint, divisor-based, zero-divisor}
 use Rattle.combination.specs.Contract.{value, MemberIs, MemberOf, CombinationAsked, CombinationOf}
@@ -44,7 +43,7 @@ module _ {zero : Divisor} {one : Polynomial} (z : ZeroClass zero) (m : MemberOf 
   is : {p : ℕ} (S : Setting p) → MemberIs p k0 zero 0 one
   is {p} S =
       let D = zero-divisor S z in
-      m.of p k0 S.prime (subst (λ κ. Shaped p κ zero) (sym (only D.kind k0 z.kind D.based.shaped)) D.based.shaped)
+      m.of p k0 S.prime (subst (λ κ. Shaped p κ zero) (sym D.based.shaped.kind ∙ z.kind) D.based.shaped)
 
   pub part-asked : {g : Ground} {x y : Divisor} → SumAsked g x y → CombinationAsked g one x one y
   part-asked A =

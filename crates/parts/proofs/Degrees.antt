@@ -1,12 +1,13 @@
--- The degree of a divisor is the tens of its kind: how many monomials remain.
+-- The degree of a divisor by its kind: how many monomials remain.
 --   degree_sum         the degrees of the three members are 12 and three times the degree
 --   inside-same        if I lies inside J and the degree of I is not larger, J lies inside I
-use mathlib.Core.Path.{◌≡◌, refl, sym, subst}
-use Prim.Native.Nat.{ℕ, ◌+◌, ◌*◌, ◌/◌, ◌%◌, ◌≤◌}
+use mathlib.Core.Path.{◌≡◌, refl, sym, ap, subst}
+use Prim.Native.Nat.{ℕ, ◌+◌, ◌*◌, ◌%◌, ◌≤◌}
 use native.Mathlib.Omega.{arith}
 use Rattle.prime_field.specs.Field.{F}
 use Rattle.ideal.proofs.Leads.{Lead, ideal_space, lowering}
-use Rattle.divisor.specs.Kind.{Kind, code}
+use Rattle.kind.specs.Kinds.{degree_of}
+use Rattle.divisor.specs.Kind.{Kind}
 use Rattle.divisor.proofs.Table.{degree, kind_by, class_by, degree_class}
 use Rattle.divisor.proofs.Basis.{basis-lead, lead-basis}
 use Rattle.triple.specs.Setting.{Setting, ring, poles_of}
@@ -15,8 +16,8 @@ use Rattle.basis.specs.Divisor.{residues}
 use Rattle.group.specs.Contract.{IsDivisor, ideal}
 use Rattle.group.proofs.Divisor.{divisor_footprint}
 
-pub degree_sum : (κ : Kind) → degree κ 0 + degree κ 1 + degree κ 2 ≡ 12 + 3 * (code κ / 10)
-degree_sum = kind_by (λ κ. degree κ 0 + degree κ 1 + degree κ 2 ≡ 12 + 3 * (code κ / 10)) refl refl refl refl refl
+pub degree_sum : (κ : Kind) → degree κ 0 + degree κ 1 + degree κ 2 ≡ 12 + 3 * degree_of κ
+degree_sum = kind_by (λ κ. degree κ 0 + degree κ 1 + degree κ 2 ≡ 12 + 3 * degree_of κ) refl refl refl refl refl
 
 module _ {p : ℕ} (S : Setting p) {x y : Divisor} (D : IsDivisor S x) (E : IsDivisor S y) (inside : (h : (ring S).Car) → ideal S x D h → ideal S y E h) where
   -- the member of x in the class j has a lead that J reaches
@@ -31,12 +32,12 @@ module _ {p : ℕ} (S : Setting p) {x y : Divisor} (D : IsDivisor S x) (E : IsDi
           subst (λ i. degree E.kind i ≤ degree D.kind j) (degree_class D.kind j l)
           (lead-basis (F p S.prime) S.curve S.nonzero E.kind (residues p y) E.based.basis (degree D.kind j) (u, inside u mu, pu))
 
-  pub inside-same : x.kind / 10 ≤ y.kind / 10 → (h : (ring S).Car) → ideal S y E h → ideal S x D h
+  pub inside-same : degree_of x.kind ≤ degree_of y.kind → (h : (ring S).Car) → ideal S y E h → ideal S x D h
   inside-same n =
       lowering (poles_of S) (ideal_space (poles_of S) (divisor_footprint S D).ideal) (ideal_space (poles_of S) (divisor_footprint S E).ideal) inside leads
     where
       sums : degree D.kind 0 + degree D.kind 1 + degree D.kind 2 ≤ degree E.kind 0 + degree E.kind 1 + degree E.kind 2
-      sums = omega (arith, degree_sum D.kind, degree_sum E.kind, D.based.shaped.kind, E.based.shaped.kind)
+      sums = omega (arith, degree_sum D.kind, degree_sum E.kind, ap degree_of D.based.shaped.kind, ap degree_of E.based.shaped.kind, n)
 
       equal : (j : ℕ) → j ≤ 2 → degree D.kind j ≤ degree E.kind j
       equal = class_by (λ j. degree D.kind j ≤ degree E.kind j) (omega (arith, sums, all)) (omega (arith, sums, all)) (omega (arith, sums, all))

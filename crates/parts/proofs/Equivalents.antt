@@ -7,7 +7,7 @@
 --   third-smaller                  A does not lie inside J for the second u or for the third: else N would lie inside N·J
 use mathlib.Core.Path.{◌≡◌, sym, subst}
 use mathlib.Core.Logic.{◌⊎◌, inl, inr}
-use Prim.Native.Nat.{ℕ, ◌/◌, ◌<◌, ◌≤◌}
+use Prim.Native.Nat.{ℕ, ◌<◌, ◌≤◌}
 use native.Mathlib.Omega.{arith}
 use native.Mathlib.Decide.{dec_le}
 use Rattle.algebra.specs.Ring.{CommRing}
@@ -30,7 +30,8 @@ use Rattle.ideal.proofs.Parts.{sum_left, sum-right, sum-ideal, sum_same, colon_b
 use Rattle.ideal.proofs.Invertible.{scaled_ideal, invertible-whole}
 use Rattle.ideal.proofs.Swap.{scaled_equivalent, colon_equivalent, colon_combined, colon_inside, meet_based, parts_equivalent, sum_footprint}
 use Rattle.nonsingular.specs.Nonsingular.{Nonsingular}
-use Rattle.divisor.specs.Kind.{code, polynomials}
+use Rattle.kind.specs.Kinds.{degree_of}
+use Rattle.divisor.specs.Kind.{k0, polynomials}
 use Rattle.divisor.proofs.Table.{degree, kind_by}
 use Rattle.divisor.proofs.Members.{member, members-polynomials}
 use Rattle.divisor.proofs.Basis.{lead-basis}
@@ -129,7 +130,7 @@ module _ {g : Ground} {x y n : Divisor} {f : Polynomial} (neg : NegativeOf g x n
           inner =
               colon_based_ideal (poles_of S) u_pole (colon_based_ideal (poles_of S) pf (divisor-based S A.pair.a_is) least-f.member) u_in
 
-      pub other-inside : {c : Divisor} → OverlapOf g u x f y c → y.kind / 10 ≤ c.kind / 10 → (h : R.Car) → Colon R (value S u) N h → J h
+      pub other-inside : {c : Divisor} → OverlapOf g u x f y c → degree_of y.kind ≤ degree_of c.kind → (h : R.Car) → Colon R (value S u) N h → J h
       other-inside {c} o small h mh = go (other-part o)
         where
           go : (G : IsDivisor S c) × SameIdeal R (ideal S c G) (IdealSum R (Colon R (value S u) N) J) → J h
@@ -137,7 +138,7 @@ module _ {g : Ground} {x y n : Divisor} {f : Polynomial} (neg : NegativeOf g x n
               inside-same S A.pair.b_is G (λ k mk. (e k).1 (sum-right R (colon_ideal R (value S u) N) mk)) small h
               ((e h).1 (sum_left R (divisor-based S A.pair.b_is).ideal mh))
 
-      pub apart_is : {c k : Divisor} → OverlapOf g u x f y c → MeetOf g u n y k → c.kind / 10 < y.kind / 10 → ApartIs g x y A (record { multiple = k; part = c })
+      pub apart_is : {c k : Divisor} → OverlapOf g u x f y c → MeetOf g u n y k → degree_of c.kind < degree_of y.kind → ApartIs g x y A (record { multiple = k; part = c })
       unfolding other-meet_asked
       apart_is {c} {k} o h small =
           let G = other-part o in
@@ -203,15 +204,15 @@ module _ {g : Ground} {x y n : Divisor} {f : Polynomial} (neg : NegativeOf g x n
 
     not_whole : ((e : (ring T).Car) → E e) → ⊥
     not_whole e =
-        A.some (kind_by (λ κ. y.kind ≡ code κ → degree κ 0 ≤ 0 → y.kind ≡ 0) (λ q l. q) (λ q l. absurd (omega arith)) (λ q l. absurd (omega arith))
+        A.some (kind_by (λ κ. y.kind ≡ κ → degree κ 0 ≤ 0 → y.kind ≡ k0) (λ q l. q) (λ q l. absurd (omega arith)) (λ q l. absurd (omega arith))
         (λ q l. absurd (omega arith)) (λ q l. absurd (omega arith)) A.pair.b_is.kind A.pair.b_is.based.shaped.kind
         (lead-basis (F g.p T.prime) T.curve T.nonzero A.pair.b_is.kind (residues g.p y) A.pair.b_is.based.basis 0
         ((ring T).one, e (ring T).one, one-pole (poles_of T))))
 
-    pub third-smaller : y.kind / 10 ≤ c.kind / 10 → d.kind / 10 < y.kind / 10
-    third-smaller large = go (dec_le (y.kind / 10) (d.kind / 10))
+    pub third-smaller : degree_of y.kind ≤ degree_of c.kind → degree_of d.kind < degree_of y.kind
+    third-smaller large = go (dec_le (degree_of y.kind) (degree_of d.kind))
       where
-        each : y.kind / 10 ≤ d.kind / 10 → (j : ℕ) → j < 3 → Product (ring T) K E (at j)
+        each : degree_of y.kind ≤ degree_of d.kind → (j : ℕ) → j < 3 → Product (ring T) K E (at j)
         each large' j l = at_one (h.all j l)
           where
             at_one : (j ≡ q.first) ⊎ ((j ≡ q.second) ⊎ (j ≡ q.third)) → Product (ring T) K E (at j)
@@ -225,6 +226,6 @@ module _ {g : Ground} {x y n : Divisor} {f : Polynomial} (neg : NegativeOf g x n
             (generated_in (ring T) (product-ideal (ring T) (divisor-based T Q).ideal) (polynomials T.curve Q.kind (residues g.p n))
             (members-polynomials T.curve (Product (ring T) K E) Q.kind (residues g.p n) (all 0 (omega arith), (all 1 (omega arith), (all 2 (omega arith), tt)))))
 
-        go : Dec (y.kind / 10 ≤ d.kind / 10) → d.kind / 10 < y.kind / 10
+        go : Dec (degree_of y.kind ≤ degree_of d.kind) → degree_of d.kind < degree_of y.kind
         go (yes l) = absurd (not_whole (whole (each l)))
         go (no l) = omega arith

@@ -1,5 +1,5 @@
 -- What the functions on common parts require and ensure. I and J are the ideals of x and y.
---   PlacesOf kind r        places_of: three different classes, the first that of the least degree
+--   PlacesOf κ r           places_of: three different classes, the first that of the least degree
 --   LeastOf x r            least: the least element of the ideal of x
 --   OverlapOf              overlap: the reduced ideal of u·I + v·J
 --   PartOf                 common_part: I + J
@@ -7,12 +7,13 @@
 --   MultipleOf             common_multiple: the reduced ideal of I ∩ J
 --   Smooth S               the curve is nonsingular
 --   InsideAsked, ApartOf   apart: for I inside J two divisors whose product is equivalent to I·J, the second of smaller degree than y
-use Rattle.std.specs.Prelude.{◌≡◌, ◌⊎◌, ℕ, ◌/◌, ◌<◌, ◌≤◌}
+use Rattle.std.specs.Prelude.{◌≡◌, ◌⊎◌, ℕ, ◌<◌, ◌≤◌}
 use Rattle.ideal.specs.Ideal.{Product, Colon, SameIdeal, Equivalent}
 use Rattle.ideal.specs.Reduced.{Least, IsReduced}
 use Rattle.ideal.specs.Parts.{IdealSum, Intersection}
 use Rattle.nonsingular.specs.Nonsingular.{Nonsingular}
-use Rattle.divisor.specs.Kind.{Kind, code}
+use Rattle.kind.specs.Kinds.{degree_of}
+use Rattle.divisor.specs.Kind.{Kind, k0}
 use Rattle.divisor.proofs.Table.{degree}
 use Rattle.triple.specs.Setting.{Setting, ring, poles_of}
 use Rattle.ground.specs.declared.Ground.{Ground}
@@ -23,12 +24,12 @@ use Rattle.combination.specs.declared.Polynomial.{Polynomial}
 use Rattle.parts.specs.declared.Places.{Places}
 use Rattle.parts.specs.declared.Parts.{Parts}
 
-pub record PlacesOf (kind : ℕ) (r : Places) : Type 0 where
+pub record PlacesOf (κ : Kind) (r : Places) : Type 0 where
   pub first_below : r.first < 3
   pub second_below : r.second < 3
   pub third_below : r.third < 3
   pub all : (j : ℕ) → j < 3 → (j ≡ r.first) ⊎ ((j ≡ r.second) ⊎ (j ≡ r.third))
-  pub lowest : (κ : Kind) → kind ≡ code κ → (j : ℕ) → j < 3 → degree κ r.first ≤ degree κ j
+  pub lowest : (j : ℕ) → j < 3 → degree κ r.first ≤ degree κ j
 
 pub record LeastIs {p : ℕ} (S : Setting p) (x : Divisor) (D : IsDivisor S x) (r : Polynomial) : Type 0 where
   pub monic : MonicValue p r
@@ -78,7 +79,7 @@ pub record InsideAsked (g : Ground) (x y : Divisor) : Type 0 where
   pub inside :
       let S = pair.grounded.ready.setting in
       (h : (ring S).Car) → ideal S x pair.a_is h → ideal S y pair.b_is h
-  pub some : ¬ (y.kind ≡ 0)
+  pub some : ¬ (y.kind ≡ k0)
 
 pub record ApartIs (g : Ground) (x y : Divisor) (A : InsideAsked g x y) (r : Parts) : Type 0 where
   pub multiple_is : IsDivisor A.pair.grounded.ready.setting r.multiple
@@ -87,7 +88,7 @@ pub record ApartIs (g : Ground) (x y : Divisor) (A : InsideAsked g x y) (r : Par
       let S = A.pair.grounded.ready.setting in
       Equivalent (ring S) (Product (ring S) (ideal S r.multiple multiple_is) (ideal S r.part part_is))
       (Product (ring S) (ideal S x A.pair.a_is) (ideal S y A.pair.b_is))
-  pub smaller : r.part.kind / 10 < y.kind / 10
+  pub smaller : degree_of r.part.kind < degree_of y.kind
 
 abbrev pub ApartOf : (g : Ground) (x y : Divisor) (r : Parts) → Type 0
 ApartOf g x y r = (A : InsideAsked g x y) → ApartIs g x y A r

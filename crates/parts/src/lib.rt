@@ -9,6 +9,7 @@ ghost use Rattle.parts.specs.Contract.{PlacesOf, LeastOf, OverlapOf, PartOf, Mee
 use basis::Divisor;
 use combination::Polynomial;
 use ground::Ground;
+use kind::Kind;
 
 // The classes of the polynomials of a record in its triple: the first, which is the least, the second, and the one that is left.
 #[derive(Clone, Copy)]
@@ -26,27 +27,25 @@ pub struct Parts {
 }
 
 // The places by the kind; those of the kinds 0, 11 and 31 are alike.
-fn places_of(kind: u32) -> Places
+fn places_of(kind: Kind) -> Places
     ensures { PlacesOf kind result }
 {
-    if kind == 21 {
-        return Places {
+    match kind {
+        Kind::K21 => Places {
             first: 1,
             second: 0,
             third: 2,
-        };
-    }
-    if kind == 22 {
-        return Places {
+        },
+        Kind::K22 => Places {
             first: 0,
             second: 2,
             third: 1,
-        };
-    }
-    Places {
-        first: 0,
-        second: 1,
-        third: 2,
+        },
+        Kind::Zero | Kind::K11 | Kind::K31 => Places {
+            first: 0,
+            second: 1,
+            third: 2,
+        },
     }
 }
 
@@ -98,7 +97,7 @@ pub fn common_multiple(g: Ground, x: Divisor, y: Divisor) -> Divisor
 }
 
 // For I inside J: common multiple and common part of A and J, where A = (u : I*) is equivalent to I and does not lie inside J. u is the second
-// polynomial of I*, or the third where the degree of the common part, the tens of its kind, shows that the second does not serve.
+// polynomial of I*, or the third where the degree of the common part shows that the second does not serve.
 pub fn apart(g: Ground, x: Divisor, y: Divisor) -> Parts
     requires { InsideAsked g x y }
     ensures { ApartOf g x y result }
@@ -108,7 +107,7 @@ pub fn apart(g: Ground, x: Divisor, y: Divisor) -> Parts
     let q = places_of(n.kind);
     let u = combination::member(n, q.second);
     let part = overlap(g, u, x, f, y);
-    if part.kind / 10 < y.kind / 10 {
+    if part.kind.degree() < y.kind.degree() {
         let multiple = meet(g, u, n, y);
         return Parts { multiple, part };
     }

@@ -1,4 +1,4 @@
--- What the reader of a divisor finds, stage by stage. r is the value that it reads of the bytes s, whose form is accepted.
+-- What the reader of a divisor finds, stage by stage. r is the value that it reads of the bytes s, whose form is accepted, and κ their kind.
 --   value-shaped, value-holds      r has the kind and the numbers of s
 --   refused_8, refused_9, given    a number that is not below p; no basis; an accepted divisor
 --   basis_asked, found-no_basis, found-basis    the same by the test of basis
@@ -37,13 +37,7 @@ use Rattle.record.proofs.Cause.{first_append}
 use Rattle.divisor.proofs.Codes.{count_small, basis-same}
 use Rattle.record.proofs.Written.{Holds, read_back, read_based}
 
-module _ (p : ℕ) (prime : Prime p) (s : List ℕ) (r : Divisor) (v : ValueOf s r) (form : Passes (divisor_form s)) where
-  abbrev κ : Kind
-  κ = form.1.0.0
-
-  is_kind : OfKind s κ
-  is_kind = form.1.0.1
-
+module _ (p : ℕ) (prime : Prime p) (s : List ℕ) (r : Divisor) {κ : Kind} (is_kind : OfKind s κ) (v : ValueOf κ s r) (form : Passes (divisor_form s)) where
   long : length s ≡ size κ
   long = form.1.1.0 κ is_kind
 
@@ -69,7 +63,7 @@ module _ (p : ℕ) (prime : Prime p) (s : List ℕ) (r : Divisor) (v : ValueOf s
   bounds h i l = omega (arith, number_is i l, below_at p (numbers_of r) h i (omega (arith, count_small κ)))
 
   pub value-shaped : AllBelow p (numbers_of r) → Shaped p κ r
-  value-shaped h = record { kind = v.kind ∙ is_kind; below = all_below (bounds h) }
+  value-shaped h = record { kind = v.kind; below = all_below (bounds h) }
 
   pub value-holds : AllBelow p (numbers_of r) → Holds p κ s r
   value-holds h = record { shaped = value-shaped h; number = number_is }
@@ -113,21 +107,21 @@ module _ (p : ℕ) (prime : Prime p) (s : List ℕ) (r : Divisor) (v : ValueOf s
               basis = basis-same C (residues p r) (number_at p s) κ (λ i l. ap (el p) (number_is i l)) b;
             }
 
-module _ {g : Ground} (s : List ℕ) (r : Divisor) (v : ValueOf s r) (form : Passes (divisor_form s)) (below : AllBelow g.p (numbers_of r)) (G : Grounded g) where
+module _ {g : Ground} (s : List ℕ) (r : Divisor) {κ : Kind} (is_kind : OfKind s κ) (v : ValueOf κ s r) (form : Passes (divisor_form s)) (below : AllBelow g.p (numbers_of r)) (G : Grounded g) where
   abbrev C : Curve (Z g.p)
   C = G.ready.setting.curve
 
-  shaped : Shaped g.p form.1.0.0 r
-  shaped = value-shaped g.p G.ready.setting.prime s r v form below
+  shaped : Shaped g.p κ r
+  shaped = value-shaped g.p G.ready.setting.prime s r is_kind v form below
 
   pub basis_asked : BasisAsked g.p g.cube r
-  basis_asked = record { ready = G.ready; kind = form.1.0.0; shaped = shaped }
+  basis_asked = record { ready = G.ready; kind = κ; shaped = shaped }
 
   pub found-no_basis : {b : Bool} → BasisTest g.p g.cube r b → b ≡ false → FirstCause (divisor_stages g.p C s) 9
-  found-no_basis t n = refused_9 g.p G.ready.setting.prime s r v form C below ((t G.ready form.1.0.0 shaped).fails n)
+  found-no_basis t n = refused_9 g.p G.ready.setting.prime s r is_kind v form C below ((t G.ready κ shaped).fails n)
 
   pub found-basis : {b : Bool} → BasisTest g.p g.cube r b → b ≡ true → Bytes s → DivisorGiven g.p C s r
-  found-basis t y h = given g.p G.ready.setting.prime s r v form C below h ((t G.ready form.1.0.0 shaped).holds y)
+  found-basis t y h = given g.p G.ready.setting.prime s r is_kind v form C below h ((t G.ready κ shaped).holds y)
 
 -- two divisors, one after the other
 module _ (p : ℕ) (C : Curve (Z p)) (s t : List ℕ) where

@@ -2,12 +2,11 @@
 --   equation_stages e      what is checked of a curve behind its form, of its equation by value
 --   NonsingularAsked e     is_nonsingular: the coefficient of x⁴ is 1, p is a prime, and the other coefficients are below it
 --   WriteAsked, WriteAnswer    write_divisor: the record of r at the start of the buffer, the rest as it was
---   Written r out out' n κ     … for the kind κ of r
 use Rattle.std.specs.Prelude.{◌≡◌, List, ◌++◌, ℕ, ◌<◌, ◌≤◌, length, drop}
 use Rattle.prime.specs.Prime.{Prime}
 use Rattle.equation.specs.Equation.{curve_of}
 use Rattle.equation.specs.declared.Equation.{Equation}
-use Rattle.divisor.specs.Kind.{Kind, code, size}
+use Rattle.divisor.specs.Kind.{size}
 use Rattle.basis.specs.declared.Divisor.{Divisor}
 use Rattle.record.specs.Cause.{Stage}
 use Rattle.record.specs.Curve.{curve_rest}
@@ -23,13 +22,8 @@ pub record NonsingularAsked (e : Equation) : Type 0 where
   pub below : (i : ℕ) → i < 9 → coefficient_of e i < e.p
 
 pub record WriteAsked (r : Divisor) (out : List ℕ) : Type 0 where
-  pub kind : Kind
-  pub is : r.kind ≡ code kind
-  pub room : size kind ≤ length out
+  pub room : size r.kind ≤ length out
 
-pub record Written (r : Divisor) (out out' : List ℕ) (n : ℕ) (κ : Kind) : Type 0 where
-  pub long : n ≡ size κ
-  pub bytes : out' ≡ bytes_of κ r ++ drop (size κ) out
-
-abbrev pub WriteAnswer : Divisor → (out out' : List ℕ) → ℕ → Type 0
-WriteAnswer r out out' n = (κ : Kind) → r.kind ≡ code κ → Written r out out' n κ
+pub record WriteAnswer (r : Divisor) (out out' : List ℕ) (n : ℕ) : Type 0 where
+  pub long : n ≡ size r.kind
+  pub bytes : out' ≡ bytes_of r.kind r ++ drop (size r.kind) out

@@ -15,6 +15,7 @@ ghost use Rattle.reader.specs.Reading.{CurveRead, DivisorRead, TwoRead, NextRead
 use basis::Divisor;
 use equation::Equation;
 use ground::Ground;
+use kind::Kind;
 
 // The most bytes of a list.
 pub const LIST_LIMIT: usize = 32768;
@@ -111,7 +112,10 @@ pub fn read_divisor(g: Ground, s: &[u8]) -> DivisorAnswer
     if form != 0 {
         return DivisorAnswer::Refused(form);
     }
-    let r = checks::value(s);
+    let Ok(kind) = Kind::try_from(layout::read_u16(s, 2)) else {
+        return DivisorAnswer::Refused(7);
+    };
+    let r = checks::value(kind, s);
     if !checks::all_below(g.p, r) {
         return DivisorAnswer::Refused(8);
     }
@@ -166,7 +170,7 @@ pub fn write_divisor(r: Divisor, out: &mut [u8]) -> usize
     requires { WriteAsked r out.old }
     ensures { WriteAnswer r out.old out.new result }
 {
-    let count = kind::count_of(r.kind);
+    let count = r.kind.count();
     let ns = [r.n0, r.n1, r.n2, r.n3, r.n4, r.n5, r.n6, r.n7, r.n8];
-    writing::write_record(out, r.kind, &ns, count)
+    writing::write_record(out, r.kind.code(), &ns, count)
 }

@@ -5,7 +5,7 @@
 --   parts_asked, road_parts    common multiple and common part
 --   apart-asked, double-apart  the two that replace x and y where x lies inside y
 use mathlib.Core.Path.{◌≡◌}
-use Prim.Native.Nat.{ℕ, ◌/◌, ◌≤◌}
+use Prim.Native.Nat.{ℕ, ◌≤◌}
 use Rattle.ideal.specs.Ideal.{Product, Equivalent}
 use Rattle.ideal.specs.Reduced.{IsReduced}
 use Rattle.ideal.proofs.Same.{same_refl}
@@ -16,6 +16,8 @@ use Rattle.ideal.proofs.Star.{reduced-same}
 use Rattle.ideal.proofs.Finite.{product-based}
 use Rattle.ideal.proofs.Parts.{sum_left, sum-right}
 use Rattle.ideal.proofs.Swap.{meet_based, parts_equivalent}
+use Rattle.kind.specs.Kinds.{degree_of}
+use Rattle.divisor.specs.Kind.{k0}
 use Rattle.triple.specs.Setting.{Setting, ring, poles_of}
 use Rattle.ground.specs.declared.Ground.{Ground}
 use Rattle.basis.specs.declared.Divisor.{Divisor}
@@ -39,7 +41,7 @@ module _ {g : Ground} {a b : Divisor} where
       let q = h (swap_asked A) in
       (q.0, reduced-same (poles_of S) (product_comm (ring S)) (same_refl (ring S) (ideal S r q.0)) q.1)
 
-  pub road_zero : b.kind ≡ 0 → RoadOf g a b a
+  pub road_zero : b.kind ≡ k0 → RoadOf g a b a
   road_zero e A = sums.sum-right e A.pair
 
 -- a divisor that is the sum of two divisors whose product is equivalent to that of a and b
@@ -53,7 +55,7 @@ class-sum S A B C D E e h =
     (equivalent_trans (poles_of S) (equivalent_sym (poles_of S) e) (reduced_equivalent (poles_of S) base.ideal base.based h))
 
 module _ {g : Ground} {x y c : Divisor} (h : PartOf g x y c) where
-  module _ (some : ¬ (y.kind ≡ 0)) (large : y.kind / 10 ≤ c.kind / 10) where
+  module _ (some : ¬ (y.kind ≡ k0)) (large : degree_of y.kind ≤ degree_of c.kind) where
     -- I + J lies inside J
     pub inside_asked : RoadAsked g x y → InsideAsked g x y
     inside_asked A =

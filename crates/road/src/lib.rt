@@ -1,5 +1,4 @@
-// The sum of two divisors by value by the second road, on the ground of a nonsingular curve: by their common multiple and common part. The degree
-// of a divisor, how many monomials remain, is the tens of its kind.
+// The sum of two divisors by value by the second road, on the ground of a nonsingular curve: by their common multiple and common part.
 #![tactic(auto)]
 
 ghost use Rattle.parts.specs.Contract.{InsideAsked};
@@ -7,6 +6,7 @@ ghost use Rattle.road.specs.Contract.{RoadAsked, RoadOf, DoubleOf};
 
 use basis::Divisor;
 use ground::Ground;
+use kind::Kind;
 
 // The reduced ideal of the product of the ideals of a and b.
 #[cycle(add_double_sum)]
@@ -14,7 +14,7 @@ pub fn sum(g: Ground, a: Divisor, b: Divisor) -> Divisor
     requires { RoadAsked g a b }
     ensures { RoadOf g a b result }
 {
-    if a.kind / 10 < b.kind / 10 {
+    if a.kind.degree() < b.kind.degree() {
         return add(g, b, a);
     }
     add(g, a, b)
@@ -27,11 +27,11 @@ fn add(g: Ground, x: Divisor, y: Divisor) -> Divisor
     requires { RoadAsked g x y }
     ensures { RoadOf g x y result }
 {
-    if y.kind == 0 {
+    if y.kind == Kind::Zero {
         return x;
     }
     let part = parts::common_part(g, x, y);
-    if y.kind / 10 <= part.kind / 10 {
+    if y.kind.degree() <= part.kind.degree() {
         return double(g, x, y);
     }
     let multiple = parts::common_multiple(g, x, y);

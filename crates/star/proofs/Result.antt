@@ -22,7 +22,7 @@ use Rattle.curve.specs.Sequence.{coefficient}
 use Rattle.curve.specs.Monomial.{Below}
 use Rattle.curve.proofs.Filtration.{coefficient-below}
 use Rattle.poles.proofs.Monic.{monic-coefficient}
-use Rattle.divisor.specs.Kind.{Kind, code, k0, k11, k21, k22, k31, polynomials}
+use Rattle.divisor.specs.Kind.{Kind, k0, k11, k21, k22, k31, polynomials}
 use Rattle.divisor.proofs.Monomials.{mono-y, mono_xx, mono_xy, mono_yy}
 use Rattle.divisor.proofs.Star.{Matched, star_recognised}
 use Rattle.vector.specs.Vector.{at, res, row, element, width}
@@ -103,7 +103,7 @@ module _ {g : Ground} {t : List (List ℕ)} {d : List ℕ} (A : StarAsked g t d)
   zeros (suc n) = (positive, zeros n)
 
   -- a divisor of the kind whose polynomials lie in the colon ideal
-  starred : (κ : Kind) (r : Divisor) → r.kind ≡ code κ → Every (λ n. n < p) (numbers_of r) → Matched K C (S A).nonzero (Spanned (S A) t) κ d₀
+  starred : (κ : Kind) (r : Divisor) → r.kind ≡ κ → Every (λ n. n < p) (numbers_of r) → Matched K C (S A).nonzero (Spanned (S A) t) κ d₀
       → Every InStar (polynomials C κ (residues p r)) → Starred p (S A) t r
   starred κ r e below m es =
       let (b, i) = star_recognised K C (S A).nonzero κ (residues p r) (least-element A L) (member-pole A j L.inside) m es in

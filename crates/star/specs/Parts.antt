@@ -18,6 +18,7 @@ use Rattle.curve.specs.Sequence.{twist}
 use Rattle.vector.specs.Vector.{x_to}
 use Rattle.terms.specs.Contract.{Rows, RowsOf}
 use Rattle.ground.specs.Ground.{UnitOf}
+use Rattle.divisor.specs.Kind.{k11, k21, k22, k31}
 use Rattle.basis.specs.Divisor.{of_four}
 use Rattle.basis.specs.declared.Divisor.{Divisor}
 use Rattle.lambda.specs.declared.Pose.{Pose}
@@ -30,20 +31,20 @@ LowMonomial n = (n ≤ 8) × (4 * (n % 3) ≤ n)
 
 -- x + f0; y + g0
 abbrev pub divisor_11 : Terms → Terms → Divisor
-divisor_11 f g = of_four 11 f.a0 g.a0 0 0
+divisor_11 f g = of_four k11 f.a0 g.a0 0 0
 
 -- y + f1·x + f0; x² + g1·x + g0
 abbrev pub divisor_21 : Terms → Terms → Divisor
-divisor_21 f g = of_four 21 f.a0 f.a3 g.a0 g.a3
+divisor_21 f g = of_four k21 f.a0 f.a3 g.a0 g.a3
 
 -- x + f0; y² + g1·y + g0
 abbrev pub divisor_22 : Terms → Terms → Divisor
-divisor_22 f g = of_four 22 f.a0 g.a0 g.a4 0
+divisor_22 f g = of_four k22 f.a0 g.a0 g.a4 0
 
 -- x² + f2·y + f1·x + f0; xy + g2·y + g1·x + g0; y² + h2·y + h1·x + h0
 abbrev pub divisor_31 : Terms → Terms → Terms → Divisor
 divisor_31 f g h =
-    record { kind = 31; n0 = f.a0; n1 = f.a3; n2 = f.a4; n3 = g.a0; n4 = g.a3; n5 = g.a4; n6 = h.a0; n7 = h.a3; n8 = h.a4 }
+    record { kind = k31; n0 = f.a0; n1 = f.a3; n2 = f.a4; n3 = g.a0; n4 = g.a3; n5 = g.a4; n6 = h.a0; n7 = h.a3; n8 = h.a4 }
 
 module _ (q : Pose) where
   open q use {p, unit, d, d1, d2}

@@ -12,6 +12,7 @@ ghost use Rattle.star.specs.Parts.{Posed, ByKind};
 
 use basis::Divisor;
 use ground::Ground;
+use kind::Kind;
 use lambda::Pose;
 use triple::Triple;
 
@@ -119,7 +120,7 @@ fn by_kind(q: Pose, lam: &[u32; 26], us: &[[u32; 26]; 3], ws: &[[u32; 26]; 3]) -
             let g = solve(q, lam, us, ws, v, 7);
             let h = solve(q, lam, us, ws, v, 8);
             return Divisor {
-                kind: 31,
+                kind: Kind::K31,
                 n0: f.a0,
                 n1: f.a3,
                 n2: f.a4,
@@ -134,17 +135,17 @@ fn by_kind(q: Pose, lam: &[u32; 26], us: &[[u32; 26]; 3], ws: &[[u32; 26]; 3]) -
         // y + f1·x + f0; x² + g1·x + g0
         let f = solve(q, lam, us, ws, v, 4);
         let g = solve(q, lam, us, ws, v, 6);
-        return basis::of_four(21, f.a0, f.a3, g.a0, g.a3);
+        return basis::of_four(Kind::K21, f.a0, f.a3, g.a0, g.a3);
     }
     let f = solve(q, lam, us, ws, v, 3);
     if q.d1 == q.d + 1 {
         // x + f0; y² + g1·y + g0
         let g = solve(q, lam, us, ws, v, 8);
-        return basis::of_four(22, f.a0, g.a0, g.a4, 0);
+        return basis::of_four(Kind::K22, f.a0, g.a0, g.a4, 0);
     }
     // x + f0; y + g0
     let g = solve(q, lam, us, ws, v, 4);
-    basis::of_four(11, f.a0, g.a0, 0, 0)
+    basis::of_four(Kind::K11, f.a0, g.a0, 0, 0)
 }
 
 // The class of the least degree.

@@ -31,9 +31,9 @@ use Rattle.usual.proofs.Equate.{l-at, q-at, less-at, k2-at, f2_equals, r0_equals
 -- the divisor that the function returns
 abbrev pub made : Head → Body → Last → Divisor
 made h b l =
-    record { kind = 31; n0 = b.f0; n1 = b.f1; n2 = h.f2; n3 = b.g0; n4 = h.g1; n5 = b.g2; n6 = l.h0; n7 = l.h1; n8 = l.h2 }
+    record { kind = k31; n0 = b.f0; n1 = b.f1; n2 = h.f2; n3 = b.g0; n4 = h.g1; n5 = b.g2; n6 = l.h0; n7 = l.h1; n8 = l.h2 }
 
-pub numbers-shaped : {p : ℕ} {r : Divisor} → r.kind ≡ 31 → NumbersBelow p r → Shaped p k31 r
+pub numbers-shaped : {p : ℕ} {r : Divisor} → r.kind ≡ k31 → NumbersBelow p r → Shaped p k31 r
 numbers-shaped {p} {r} e b = record { kind = e; below = go }
   where
     go : (i : ℕ) → at (numbers_of r) i < p

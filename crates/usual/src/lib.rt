@@ -11,6 +11,7 @@ use barrett::Modulus;
 use basis::Divisor;
 use entries::Lower;
 use ground::Ground;
+use kind::Kind;
 use matrix::Column;
 
 // The divisor of the formulas, from the last two columns of the row-reduced matrix; i is the inverse of its f2.
@@ -24,7 +25,7 @@ fn completed(modulus: Modulus, o: Lower, n: Divisor, s: Column, t: Column, i: u3
     let b = formulas::body_of(modulus, o, u, v, s.y, h, i);
     let l = formulas::last_of(modulus, h, b, i);
     Divisor {
-        kind: 31,
+        kind: Kind::K31,
         n0: b.f0,
         n1: b.f1,
         n2: h.f2,

@@ -1,20 +1,18 @@
--- `basis::triple_of` meets its contract: the branch taken is that of the record's kind.
-use native.Mathlib.Omega.{arith}
-use Rattle.divisor.specs.Kind.{k0, k11, k21, k22}
-use Rattle.basis.proofs.Choice.{only, rest_31, chosen}
+-- `basis::triple_of` meets its contract: the arm taken is that of the record's kind.
+use Rattle.basis.proofs.Choice.{chosen}
 use Rattle.basis.proofs.triple_of.Goals as goal
 
-pub returns-then-r-eq0 : goal.returns-then-r-eq0
-returns-then-r-eq0 c = chosen c.triple_0.ensures (λ p κ. only κ k0 c.if-r-eq0.true)
+pub returns-in-Zero : goal.returns-in-Zero
+returns-in-Zero c = chosen c.triple_0.ensures c.in-Zero.is
 
-pub returns-then-r-eq11 : goal.returns-then-r-eq11
-returns-then-r-eq11 c = chosen c.triple_11.ensures (λ p κ. only κ k11 c.if-r-eq11.true)
+pub returns-in-K11 : goal.returns-in-K11
+returns-in-K11 c = chosen c.triple_11.ensures c.in-K11.is
 
-pub returns-then-r-eq21 : goal.returns-then-r-eq21
-returns-then-r-eq21 c = chosen c.triple_21.ensures (λ p κ. only κ k21 c.if-r-eq21.true)
+pub returns-in-K21 : goal.returns-in-K21
+returns-in-K21 c = chosen c.triple_21.ensures c.in-K21.is
 
-pub returns-then-r-eq22 : goal.returns-then-r-eq22
-returns-then-r-eq22 c = chosen c.triple_22.ensures (λ p κ. only κ k22 c.if-r-eq22.true)
+pub returns-in-K22 : goal.returns-in-K22
+returns-in-K22 c = chosen c.triple_22.ensures c.in-K22.is
 
-pub returns-else-r-eq22 : goal.returns-else-r-eq22
-returns-else-r-eq22 c = chosen c.triple_31.ensures (λ p κ. rest_31 κ (omega arith) (omega arith) (omega arith) (omega arith))
+pub returns-in-K31 : goal.returns-in-K31
+returns-in-K31 c = chosen c.triple_31.ensures c.in-K31.is

@@ -3,6 +3,8 @@ use mathlib.Core.Path.{sym, refl, ap, ◌∙◌}
 use mathlib.Core.Logic.{inl, inr}
 use Prim.Native.Nat.{ℕ, ◌+◌, ◌*◌}
 use native.Mathlib.Omega.{arith}
+use Rattle.divisor.specs.Kind.{size}
+use Rattle.record.proofs.Accepted.{same_kind}
 use Rattle.form.proofs.Answer.{checked_none, checked_cause}
 use Rattle.form.proofs.divisor_form.Goals as goal
 
@@ -12,39 +14,31 @@ returns-then-not-sized c = checked_cause 6 (omega arith) (inl (c.sized.ensures.f
 pub read_u16-code-requires : goal.read_u16-code-requires
 read_u16-code-requires c = omega (arith, c.sized.ensures.holds c.if-not-sized.false)
 
-pub returns-then-not-is_kind : goal.returns-then-not-is_kind
-returns-then-not-is_kind c =
+pub returns-in_default : goal.returns-in_default
+returns-in_default c =
     let h = c.sized.ensures.holds c.if-not-sized.false in
-    checked_cause
-    7
-    (omega arith)
-    (inr (h, inl (λ k. c.is_kind.ensures.fails c.if-not-is_kind.true (k.0, c.read_u16-code.ensures.is ∙ k.1), refl)))
+    let unknown = c.in_default.ensures.1 in
+    checked_cause 7 (omega arith) (inr (h, inl (λ k. unknown (k.0, c.read_u16-code.ensures.is ∙ k.1), refl)))
 
 pub returns-then-s-size : goal.returns-then-s-size
 returns-then-s-size c =
     let h = c.sized.ensures.holds c.if-not-sized.false in
-    let k = c.is_kind.ensures.holds c.if-not-is_kind.false in
-    let e = c.read_u16-code.ensures.is in
+    let κ = c.in-Ok.kind in
+    let e = sym c.read_u16-code.ensures.is ∙ c.in-Ok.ensures in
     checked_cause
     6
     (omega arith)
-    (inr (
-      h,
-      inr (
-        (k.0, sym e ∙ k.1),
-        inl (λ g. c.if-s-size.true (g k.0 (sym e ∙ k.1) ∙ ap (λ (n : ℕ). 4 + 4 * n) (sym (c.count_of.ensures.is k.0 k.1))), refl),
-      ),
-    ))
+    (inr (h, inr ((κ, e), inl (λ g. c.if-s-size.true (g κ e ∙ ap (λ (n : ℕ). 4 + 4 * n) (sym c.count.ensures.is)), refl))))
 
 pub returns : goal.returns
 returns c =
     let h = c.sized.ensures.holds c.if-not-sized.false in
-    let k = c.is_kind.ensures.holds c.if-not-is_kind.false in
-    let e = c.read_u16-code.ensures.is in
+    let κ = c.in-Ok.kind in
+    let e = sym c.read_u16-code.ensures.is ∙ c.in-Ok.ensures in
     checked_none (
       h,
       (
-        (k.0, sym e ∙ k.1),
-        (λ κ q. c.if-s-size.false ∙ ap (λ (n : ℕ). 4 + 4 * n) (c.count_of.ensures.is κ (e ∙ q)), tt),
+        (κ, e),
+        (λ κ' q. c.if-s-size.false ∙ ap (λ (n : ℕ). 4 + 4 * n) c.count.ensures.is ∙ ap size (same_kind c.args.s.now κ κ' e q), tt),
       ),
     )

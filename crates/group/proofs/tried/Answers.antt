@@ -1,15 +1,16 @@
 -- `group::tried` meets its contract: the sum of the formulas where they are tried and serve.
 use Rattle.group.proofs.Formulas.{formulas_tried, formulas_sum, first-other, second-other}
+use borrow.Author.Rules.{rules}
 use Rattle.group.proofs.tried.Goals as goal
 
-pub returns-then-a-ne31 : goal.returns-then-a-ne31
-returns-then-a-ne31 c = first-other c.if-a-ne31.true
+pub returns-then-ne : goal.returns-then-ne
+returns-then-ne c = first-other (search rules)
 
-pub returns-then-b-ne31 : goal.returns-then-b-ne31
-returns-then-b-ne31 c = second-other c.if-b-ne31.true
+pub returns-then-ne-2 : goal.returns-then-ne-2
+returns-then-ne-2 c = second-other (search rules)
 
 pub sum_tried-requires : goal.sum_tried-requires
-sum_tried-requires c = formulas_tried c.if-a-ne31.false c.if-b-ne31.false c.requires
+sum_tried-requires c = formulas_tried (search rules) (search rules) c.requires
 
 pub returns : goal.returns
-returns c = formulas_sum c.if-a-ne31.false c.if-b-ne31.false c.sum_tried.ensures
+returns c = formulas_sum (search rules) (search rules) c.sum_tried.ensures

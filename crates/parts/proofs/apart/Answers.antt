@@ -13,11 +13,11 @@ meet-multiple-requires c =
     let places = c.places_of-q.ensures in
     other-meet_asked c.negative-n.ensures c.least-f.ensures c.member-u.ensures places.second_below c.requires
 
-pub returns-then-part-y : goal.returns-then-part-y
-returns-then-part-y c A =
+pub returns-then-degree : goal.returns-then-degree
+returns-then-degree c A =
     let places = c.places_of-q.ensures in
     apart_is c.negative-n.ensures c.least-f.ensures c.member-u.ensures places.second_below A c.overlap-part.ensures
-    c.meet-multiple.ensures c.if-part-y.true
+    c.meet-multiple.ensures (omega arith)
 
 pub overlap-other-requires : goal.overlap-other-requires
 overlap-other-requires c =
@@ -36,4 +36,4 @@ returns c A =
     let least = c.least-f.ensures in
     apart_is negative least c.member-w.ensures (omega (arith, places.first_below, places.third_below)) A c.overlap-other.ensures c.meet-multiple-2.ensures
     (third-smaller negative least places c.member-u.ensures c.member-w.ensures c.overlap-part.ensures c.overlap-other.ensures A
-    c.if-part-y.false)
+    (omega arith))

@@ -8,16 +8,20 @@ use Rattle.reader.proofs.write_divisor.Goals as goal
 
 pub write_record-requires : goal.write_record-requires
 write_record-requires c =
-    let p = c.requires in
-    let k = c.count_of-count.ensures in
-    record { count_bound = omega (arith, k.small); kind_bound = omega (arith, code-small p.kind, p.is); count_in_bounds = k.small; count_in_bounds_2 = omega (arith, k.is p.kind p.is, p.room) }
+    let k = c.count-count.ensures in
+    record {
+      count_bound = omega (arith, k.small);
+      kind_bound = omega (arith, code-small c.args.r.kind, c.code.ensures);
+      count_in_bounds = k.small;
+      count_in_bounds_2 = omega (arith, k.is, c.requires.room);
+    }
 
 pub returns : goal.returns
-returns c = λ κ e.
+returns c =
     let a = c.args in
     let w = c.write_record.ensures in
-    let n = c.count_of-count.ensures.is κ e in
+    let n = c.count-count.ensures.is in
     record {
       long = cc (w.size, ap (λ (m : ℕ). 4 + 4 * m) n);
-      bytes = written-bytes a.r κ a.r.kind c.count_of-count.result a.out.now c.write_record.new.out e n w.written;
+      bytes = written-bytes a.r c.code.result c.count-count.result a.out.now c.write_record.new.out c.code.ensures n w.written;
     }

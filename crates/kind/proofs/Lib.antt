@@ -1,2 +1,0 @@
--- Why the table is right.
-pub mod Codes
