@@ -1,8 +1,13 @@
 -- writing::write_record writes the record of the kind's count.
 use native.Mathlib.Omega.{arith}
-use mathlib.Core.Path.{ap}
+use mathlib.Core.Path.{ap, ◌∙◌}
+use mathlib.Core.List.{◌++◌}
+use lib.ListN.{take, drop}
+use lib.Seq.{length-take-le}
 use Prim.Native.Nat.{ℕ, ◌+◌, ◌*◌}
 use Rattle.divisor.proofs.Codes.{code-small}
+use Rattle.basis.specs.Divisor.{numbers_of}
+use Rattle.layout.specs.Layout.{record_bytes}
 use Rattle.reader.proofs.Answer.{written-bytes}
 use Rattle.reader.proofs.write_divisor.Goals as goal
 
@@ -10,14 +15,21 @@ pub write_record-requires : goal.write_record-requires
 write_record-requires c =
     let p = c.requires in
     let k = c.count_of-count.ensures in
-    record { count_bound = omega (arith, k.small); kind_bound = omega (arith, code-small p.kind, p.is); count_in_bounds = k.small; count_in_bounds_2 = omega (arith, k.is p.kind p.is, p.room) }
+    let front = length-take-le c.count_of-count.result (numbers_of c.args.r) k.small in
+    record {
+      length_bound = omega (arith, front, k.small);
+      kind_bound = omega (arith, code-small p.kind, p.is);
+      in_bounds = omega (arith, front, k.is p.kind p.is, p.room);
+    }
 
 pub returns : goal.returns
 returns c = λ κ e.
     let a = c.args in
     let w = c.write_record.ensures in
     let n = c.count_of-count.ensures.is κ e in
+    let front = length-take-le c.count_of-count.result (numbers_of a.r) c.count_of-count.ensures.small in
     record {
-      long = cc (w.size, ap (λ (m : ℕ). 4 + 4 * m) n);
-      bytes = written-bytes a.r κ a.r.kind c.count_of-count.result a.out.now c.write_record.new.out e n w.written;
+      long = cc (w.size, ap (λ (m : ℕ). 4 + 4 * m) (front ∙ n));
+      bytes = written-bytes a.r κ a.r.kind c.count_of-count.result a.out.now c.write_record.new.out e n
+          (w.written ∙ ap (λ (m : ℕ). record_bytes a.r.kind (take c.count_of-count.result (numbers_of a.r)) ++ drop (4 + 4 * m) a.out.now) front);
     }
