@@ -85,7 +85,7 @@ pub fn reduce_curve(fractions: &[u8], p: u32, out: &mut [u8]) -> i32
                 return reply::refusal(10);
             }
             let ns = [e.p, e.c0, e.c1, e.c2, e.c3, e.c4, e.c5, e.c6, e.c7, e.c8];
-            let n = writing::write_record(out, 34, &ns, 10);
+            let n = writing::write_record(out, 34, &ns);
             n as i32
         }
         CurveAnswer::Refused(n) => reply::refusal(n),

@@ -19,7 +19,7 @@ fn say_same(rt: &impl Print, a: &[u8], b: &[u8]) -> io::Result<()> {
 fn main(rt: HostRuntime) -> io::Result<()> {
     let mut out: [u8; 20] = [9; 20];
     let ns: [u32; 3] = [65537, 4294967295, 67305985];
-    let size = writing::write_record(&mut out, 258, &ns, 3);
+    let size = writing::write_record(&mut out, 258, &ns);
     say(&rt, size as u64)?;
     say(&rt, layout::read_u16(&out, 0) as u64)?;
     say(&rt, layout::read_u16(&out, 2) as u64)?;

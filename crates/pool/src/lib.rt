@@ -28,7 +28,7 @@ fn step(curve: &[u8], s: &mut [u8], n: usize, i: usize, j: usize, out: &mut [u8]
         return n;
     }
     slots::close_up(s, n, i, j);
-    slots::copy_in(s, slots::SLOT * (n - 2), &out[..], r as usize);
+    slots::copy_in(s, slots::SLOT * (n - 2), &out[..r as usize]);
     n - 1
 }
 

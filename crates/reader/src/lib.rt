@@ -172,5 +172,5 @@ pub fn write_divisor(r: Divisor, out: &mut [u8]) -> usize
 {
     let count = r.kind.count();
     let ns = [r.n0, r.n1, r.n2, r.n3, r.n4, r.n5, r.n6, r.n7, r.n8];
-    writing::write_record(out, r.kind.code(), &ns, count)
+    writing::write_record(out, r.kind.code(), &ns[..count])
 }

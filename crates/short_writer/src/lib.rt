@@ -17,6 +17,6 @@ pub fn write_short(p: u32, x: Divisor, out: &mut [u8]) -> usize
     let code = 100 + x.kind;
     writing::write_u16(out, 0, size as u32);
     writing::write_u16(out, 2, code);
-    packing::pack(out, 4, &ns, count, w);
+    packing::pack(out, 4, &ns[..count], w);
     size
 }

@@ -1,7 +1,7 @@
--- The slots of a pool: copying bytes, a record that comes in at the end, and closing up.
---   copied_none, copied_more, copied_end    the loop that copies: no byte yet, one byte more, all
+-- The slots of a pool: a record that comes in at the end, and closing up.
 --   entry-before, entry_last    the entries of a list with one record more
 --   length_more            the length of such a list
+--   copied_front           the first bytes of a string, copied
 --   held_more              a record that is written behind the others is held with them
 --   without_more           what is left of one record more
 --   Closing i j p m w s    the first m records of p are passed, and what is left of them stands in the first w slots
@@ -13,33 +13,14 @@ use Prim.Native.Nat.{ℕ, suc, ◌+◌, ◌<◌, ◌≤◌}
 use native.Mathlib.Numerals.{add-one}
 use native.Mathlib.Omega.{arith}
 use native.Mathlib.Decide.{ℕ_discrete}
-use lib.ListN.{length, get_or, take, set, length-set, length-append, get_or-append}
-use lib.Seq.{get_or-set_same, get_or-set_other, get_or-append_seam, take-suc, take_all, length-take-le}
+use lib.ListN.{length, get_or, take, length-append, get_or-append}
+use lib.Seq.{get_or-append_seam, take-suc, take_all, length-take-le, get_or-take}
 use lib.Dec.{eqb}
 use Rattle.calls.specs.Call.{room}
 use Rattle.curve.specs.Sequence.{pick}
 use Rattle.calls.specs.Pool.{entry, without, without_from}
 use Rattle.calls.proofs.Places.{same_place, other_place}
 use Rattle.slots.specs.Held.{slot, Held, Copied, Passed, first, second, other}
-
-pub copied_none : (s : List ℕ) (at : ℕ) (t : List ℕ) (from : ℕ) → Copied s at t from 0 s
-copied_none s at t from = record { long = refl; here = λ k l. absurd (omega arith); before = λ k l. refl; after = λ k l. refl }
-
-pub copied_more : (s : List ℕ) (at : ℕ) (t : List ℕ) (from n : ℕ) (s' : List ℕ) (v : ℕ) → Copied s at t from n s' → at + n < length s
-    → v ≡ get_or t (from + n) 0 → Copied s at t from (n + 1) (set s' (at + n) v)
-copied_more s at t from n s' v h l e = record {
-  long = length-set s' (at + n) v ∙ h.long;
-  here = λ k m. go k m (ℕ_discrete k n);
-  before = λ k m. get_or-set_other s' (at + n) k v 0 (λ q. omega arith) ∙ h.before k m;
-  after = λ k m. get_or-set_other s' (at + n) k v 0 (λ q. omega arith) ∙ h.after k (omega arith);
-}
-  where
-    go : (k : ℕ) → k < n + 1 → Dec (k ≡ n) → get_or (set s' (at + n) v) (at + k) 0 ≡ get_or t (from + k) 0
-    go k m (yes q) = rw q (get_or-set_same s' (at + n) v 0 (omega (arith, h.long)) ∙ e)
-    go k m (no q) = get_or-set_other s' (at + n) (at + k) v 0 (λ u. q (omega arith)) ∙ h.here k (omega (arith, q))
-
-pub copied_end : (s : List ℕ) (at : ℕ) (t : List ℕ) (from k n : ℕ) (s' : List ℕ) → k ≡ n → Copied s at t from k s' → Copied s at t from n s'
-copied_end s at t from k n s' e h = subst (λ (m : ℕ). Copied s at t from m s') e h
 
 module _ (p : List (List ℕ)) (w : List ℕ) where
   pub entry-before : (m : ℕ) → m < length p → entry (p ++ w ∷ []) m ≡ entry p m
@@ -177,3 +158,14 @@ passed-below l (other a b c e) = omega arith
 
 pub closing_all : (i j : ℕ) (p : List (List ℕ)) (n w : ℕ) (s : List ℕ) → length p ≡ n → Closing i j p n w s → Held s (without i j p)
 closing_all i j p n w s e h = subst (λ (q : List (List ℕ)). Held s (without i j q)) (take_all n p (omega (arith, e))) h.new
+
+-- the first k bytes of t, copied
+pub copied_front : (s : List ℕ) (at : ℕ) (t : List ℕ) (k : ℕ) (s' : List ℕ) → k ≤ length t → Copied s at (take k t) 0 (length (take k t)) s' → Copied s at t 0 k s'
+copied_front s at t k s' h c =
+    let long : length (take k t) ≡ k = length-take-le k t h in
+    record {
+      long = c.long;
+      here = λ i l. c.here i (omega (arith, long)) ∙ get_or-take k t (0 + i) 0 (omega arith);
+      before = c.before;
+      after = λ i l. c.after i (omega (arith, long));
+    }

@@ -13,24 +13,15 @@ fn copy_back(s: &mut [u8], at: usize, from: usize, n: usize)
     requires n_in_bounds { from + n ≤ length s.old }
     ensures { Copied s.old at s.old from n s.new }
 {
-    let mut k = 0;
-    while k < n {
-        s[at + k] = s[from + k];
-        k += 1;
-    }
+    s.copy_within(from..from + n, at);
 }
 
-// Copies the first n bytes of t to place `at`.
-pub fn copy_in(s: &mut [u8], at: usize, t: &[u8], n: usize)
-    requires n_in_bounds { at + n ≤ length s.old }
-    requires n_in_bounds_2 { n ≤ length t.now }
-    ensures { Copied s.old at t.now 0 n s.new }
+// Copies the bytes of t to place `at`.
+pub fn copy_in(s: &mut [u8], at: usize, t: &[u8])
+    requires { at + length t.now ≤ length s.old }
+    ensures { Copied s.old at t.now 0 (length t.now) s.new }
 {
-    let mut k = 0;
-    while k < n {
-        s[at + k] = t[k];
-        k += 1;
-    }
+    s[at..at + t.len()].copy_from_slice(t);
 }
 
 // Passes slot m: leaves it out where m is i or j, else copies it to slot w. The result is the next slot to write.
@@ -55,9 +46,7 @@ pub fn close_up(s: &mut [u8], n: usize, i: usize, j: usize)
     ensures { Closed s.old n i j s.new }
 {
     let mut w = 0;
-    let mut m = 0;
-    while m < n {
+    for m in 0..n {
         w = pass_slot(s, w, m, i, j);
-        m += 1;
     }
 }

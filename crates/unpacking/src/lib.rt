@@ -10,9 +10,7 @@ fn last(s: &[u8], at: usize) -> u64
     ensures { result ≡ packed 8 (drop at s.now) }
 {
     let mut n = 0u64;
-    let mut i = s.len();
-    while at < i {
-        i -= 1;
+    for i in (at..s.len()).rev() {
         n = (n << 8) | (s[i] as u64);
     }
     n

@@ -1,7 +1,6 @@
 // Two strings of bytes compared a word of four bytes at a time, from the first.
 #![tactic(auto)]
 
-ghost use Rattle.std.specs.Prelude.{◌≡◌, min};
 ghost use Rattle.words.specs.Contract.{WalkOf};
 
 // What a walk over two strings of bytes meets: how many pairs of words it compares, and whether all words are the same.
@@ -11,35 +10,22 @@ pub struct Walk {
     pub same: bool,
 }
 
-// The lesser of two numbers.
-fn lesser(n: usize, m: usize) -> usize
-    ensures { result ≡ min n m }
-{
-    if n < m {
-        return n;
-    }
-    m
-}
-
 // The walk over a and b, up to and with the first pair of words that differs.
 pub fn compare(a: &[u8], b: &[u8]) -> Walk
     ensures { WalkOf a.now b.now result }
 {
     let n = a.len() / 4;
     let m = b.len() / 4;
-    let most = lesser(n, m);
-    let mut i = 0;
-    while i < most {
+    let most = n.min(m);
+    for i in 0..most {
         let v = layout::read_u32(a, 4 * i);
         let w = layout::read_u32(b, 4 * i);
         if v != w {
-            let count = i + 1;
             return Walk {
-                compared: count,
+                compared: i + 1,
                 same: false,
             };
         }
-        i += 1;
     }
     Walk {
         compared: most,

@@ -1,5 +1,5 @@
 -- `slots::close_up` meets its contract. The loop's invariant: m slots are passed, and what is left of their records stands in the first w slots.
-use Prim.Native.Nat.{ℕ, ◌≤◌, ◌-◌}
+use Prim.Native.Nat.{ℕ, ◌≤◌}
 use mathlib.Core.Path.{◌≡◌}
 use mathlib.Core.List.{List}
 use lib.ListN.{length}
@@ -9,10 +9,6 @@ use Rattle.slots.proofs.close_up.Given as goal
 
 abbrev pub invariant-loop-m : goal.invariant-loop-m
 invariant-loop-m l =
-    (l.m ≤ l.n)
-    × (l.w ≤ l.m)
+    (l.w ≤ l.m)
     × (length l.s ≡ length l.initial.s)
     × ((p : List (List ℕ)) → length p ≡ l.n → Held l.initial.s p → Closing l.i l.j p l.m l.w l.s)
-
-abbrev pub decreases-loop-m : goal.decreases-loop-m
-decreases-loop-m l = l.n - l.m

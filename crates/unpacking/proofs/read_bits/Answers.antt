@@ -21,6 +21,6 @@ overflow_cast-result c =
 pub returns : goal.returns
 returns c =
     let a = c.args in
-    bits-from a.s.now a.from a.w _ _ c.five.result (λ i. omega (arith, c.shared_slice_known-1.given i)) (omega arith) c.five.ensures
+    bits-from a.s.now a.from a.w _ _ c.five.result (λ i. omega (arith, c.type_inv.s i)) (omega arith) c.five.ensures
     (omega (arith, and_mask a.from 3))
     (omega (arith, power a.w (omega arith)))

@@ -10,13 +10,12 @@ returns-then-v-w c =
     let a = c.args.a.now in
     let b = c.args.b.now in
     let loop = c.loop-i in
-    walk_differ a b loop.i (omega (arith, c.lesser-most.ensures)) loop.invariant.1 (λ e. c.if-v-w.true (c.read_u32-v.ensures.is ∙ e ∙ sym c.read_u32-w.ensures.is))
+    walk_differ a b loop.i (omega (arith, c.min-most.ensures)) loop.invariant (λ e. c.if-v-w.true (c.read_u32-v.ensures.is ∙ e ∙ sym c.read_u32-w.ensures.is))
 
 pub loop-i-preserved : goal.loop-i-preserved
-loop-i-preserved c =
-    (omega arith, below_more _ _ c.loop-i.invariant.1 (sym c.read_u32-v.ensures.is ∙ c.if-v-w.false ∙ c.read_u32-w.ensures.is))
+loop-i-preserved c = below_more _ _ c.loop-i.invariant (sym c.read_u32-v.ensures.is ∙ c.if-v-w.false ∙ c.read_u32-w.ensures.is)
 
 pub returns : goal.returns
 returns c =
-    walk_all c.args.a.now c.args.b.now _ c.lesser-most.ensures
-    (λ k h. c.loop-i.invariant.1 k (omega (arith, c.lesser-most.ensures)))
+    walk_all c.args.a.now c.args.b.now _ c.min-most.ensures
+    (λ k h. c.loop-i.invariant k (omega (arith, c.min-most.ensures)))
