@@ -9,13 +9,14 @@
 --   reached-all            x is done
 --   put-most, put_asked    there is room for the pair
 --   reached_length         the slice keeps its length
---   Line                   the invariant of list_at's loop; line-start, line-next, line-end
---   reached-next           the next turn of list_points' loop
+--   Line                   the invariant of list_at's loop; line-start, line-next, line-end; line-here at the root that was found, line-past where there is none
+--   reached-next           the next turn of list_points' loop; reached-here, reached-past likewise
 use mathlib.Core.Path.{◌≡◌, sym, subst}
 use mathlib.Core.List.{List, [], ◌++◌}
 use Prim.Native.Nat.{ℕ, suc, ◌+◌, ◌<◌, ◌≤◌}
 use native.Mathlib.Omega.{arith}
 use lib.ListN.{length, replicate, length-append, length-replicate}
+use Rattle.std.specs.Prelude.{Option, Some, None, unwrap_or}
 use Rattle.prime.specs.Prime.{Prime}
 use Rattle.ground.specs.declared.Ground.{Ground}
 use Rattle.basis.specs.Divisor.{Shaped}
@@ -127,3 +128,18 @@ module _ {g : Ground} {r : Divisor} {a n : ℕ} {out₀ : List ℕ} where
 pub reached-next : {g : Ground} {r : Divisor} {first : List ℕ} {a a' n n' : ℕ} {out out' : List ℕ} {e : Cubic} → Reached g r first (a, 0) n out
     → ListedAt g r a n out n' out' → InX g.p r e → RootFound g.p e (a + 1) a' → Reached g r first (a', 0) n' out'
 reached-next {first = first} h l x root = reached-lines (l.reached first h) x (from_next root)
+
+module _ {g : Ground} {r : Divisor} {next : Option ℕ} where
+  module _ {a n : ℕ} {out₀ : List ℕ} {m : ℕ} {out : List ℕ} (h : Line g r a n out₀ (unwrap_or next g.p) m out) where
+    pub line-here : {b : ℕ} → next ≡ Some b → Line g r a n out₀ b m out
+    line-here e = subst (λ (o : Option ℕ). Line g r a n out₀ (unwrap_or o g.p) m out) e h
+
+    pub line-past : next ≡ None → Line g r a n out₀ g.p m out
+    line-past e = subst (λ (o : Option ℕ). Line g r a n out₀ (unwrap_or o g.p) m out) e h
+
+  module _ {first : List ℕ} {n : ℕ} {out : List ℕ} (h : Reached g r first (unwrap_or next g.p, 0) n out) where
+    pub reached-here : {a : ℕ} → next ≡ Some a → Reached g r first (a, 0) n out
+    reached-here e = subst (λ (o : Option ℕ). Reached g r first (unwrap_or o g.p, 0) n out) e h
+
+    pub reached-past : next ≡ None → Reached g r first (g.p, 0) n out
+    reached-past e = subst (λ (o : Option ℕ). Reached g r first (unwrap_or o g.p, 0) n out) e h

@@ -53,12 +53,12 @@ fn list_at(
 {
     let c = eliminants::in_y(g.p, r, a);
     let mut m = n;
-    let mut b = roots::root_from(g.p, c, 0);
-    while b < g.p {
+    let mut y = roots::root_from(g.p, c, 0);
+    while let Some(b) = y {
         let k = stands(g, r, t, d, a, b);
         put(out, m, a, b, k);
         m += k;
-        b = roots::root_from(g.p, c, b + 1);
+        y = roots::root_from(g.p, c, b + 1);
     }
     m
 }
@@ -73,10 +73,10 @@ pub fn list_points(g: Ground, r: Divisor, out: &mut [u32]) -> usize
     basis::triple_of(r, &mut t, &mut d);
     let c = eliminants::in_x(g.p, r);
     let mut n = 0;
-    let mut a = roots::root_from(g.p, c, 0);
-    while a < g.p {
+    let mut x = roots::root_from(g.p, c, 0);
+    while let Some(a) = x {
         n = list_at(g, r, &t, &d, a, n, out);
-        a = roots::root_from(g.p, c, a + 1);
+        x = roots::root_from(g.p, c, a + 1);
     }
     n
 }

@@ -1,10 +1,11 @@
--- `listing::list_points` meets its contract: at each turn the points before (a, 0) are in the slice. The measure is p − a.
-use Prim.Native.Nat.{◌-◌, ◌≤◌}
+-- `listing::list_points` meets its contract: at each turn the points before (a, 0) are in the slice. The measure is p − a, for the next root a.
+use Prim.Native.Nat.{◌-◌, ◌<◌}
+use Rattle.std.specs.Prelude.{IfSome, unwrap_or}
 use Rattle.listing.specs.Contract.{Reached}
 use Rattle.listing.proofs.list_points.Given as goal
 
-abbrev pub invariant-loop-a : goal.invariant-loop-a
-invariant-loop-a l = (l.a ≤ l.g.p) × Reached l.g l.r l.initial.out (l.a, 0) l.n l.out
+abbrev pub invariant-loop-x : goal.invariant-loop-x
+invariant-loop-x l = IfSome l.x (λ a. a < l.g.p) × Reached l.g l.r l.initial.out (unwrap_or l.x l.g.p, 0) l.n l.out
 
-abbrev pub decreases-loop-a : goal.decreases-loop-a
-decreases-loop-a l = l.g.p - l.a
+abbrev pub decreases-loop-x : goal.decreases-loop-x
+decreases-loop-x l = l.g.p - unwrap_or l.x l.g.p
