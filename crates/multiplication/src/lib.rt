@@ -25,17 +25,16 @@ pub fn y_multiples(p: u32, cube: &[u32; 26], v: &[u32; 26], top: usize) -> [[u32
     [*v, a, b]
 }
 
-// The part of y·v that comes from the classes 0 and 1 modulo 3: v[n] at n + 4, unless a power of x stands there.
+// The part of y·v that comes from the classes 0 and 1 modulo 3: v[n] at n + 4. For the class 2 the product with y is no normal monomial.
 fn shift_y(v: &[u32; 26], top: usize) -> [u32; 26]
     requires { ShiftAsked v.now top }
     ensures { Shifted v.now top result }
 {
-    let powers = terms::normal::Y_POWER;
     let mut out = [0u32; 26];
     for n in 0..top {
-        let m = n + 4;
-        if powers[m] != 0 {
-            out[m] = v[n];
+        let class = n % 3;
+        if class != 2 {
+            out[n + 4] = v[n];
         }
     }
     out

@@ -1,14 +1,10 @@
 -- What an entry of the table of normal monomials says of the class of its place modulo 3, in which the loops' laws are stated.
---   entry-fits         its two numbers fit a word
 --   entry-class        the entry of a monomial: its power of y is the class of n, and its power of x has the rest of n as pole number
 --   entry-gap          the mark of a gap: the power of y of the class of n has a pole number above n
---   entry-moved, entry-dropped     y divides the monomial at n + 4, or does not
 use mathlib.Core.Path.{◌≡◌, sym, ◌∙◌, ap}
 use mathlib.Core.Logic.{inl, inr}
-use Prim.Native.Nat.{ℕ, ◌+◌, ◌*◌, ◌-◌, ◌%◌, ◌≤◌, ◌<◌}
+use Prim.Native.Nat.{ℕ, ◌*◌, ◌-◌, ◌%◌, ◌≤◌, ◌<◌}
 use native.Mathlib.Omega.{arith}
-use mir.Syntax.{w64}
-use mir.Val.{Fits}
 use Rattle.ideal.specs.Poles.{IsGap}
 use Rattle.curve.specs.Pole.{pole, y_power}
 use Rattle.curve.proofs.Pole.{pole-y}
@@ -23,13 +19,6 @@ gap-class n (inl e) = omega arith
 gap-class n (inr (inl e)) = omega arith
 gap-class n (inr (inr e)) = omega arith
 
-pub entry-fits : (n : ℕ) → n < 26 → Fits w64 (y_at n) × Fits w64 (x_at n)
-entry-fits n l = go (table-right n (omega arith))
-  where
-    go : Entry n → Fits w64 (y_at n) × Fits w64 (x_at n)
-    go (monomial i h x e) = omega arith
-    go (mark h x g) = omega arith
-
 pub entry-class : (n : ℕ) → n < 26 → y_at n < 3 → (y_at n ≡ n % 3) × (x_at n ≡ n - 4 * (n % 3)) × (4 * (n % 3) ≤ n)
 entry-class n l k = go (table-right n (omega arith))
   where
@@ -43,17 +32,3 @@ entry-gap n l k = go (table-right n (omega arith))
     go : Entry n → n < 4 * (n % 3)
     go (monomial i h x e) = absurd (omega arith)
     go (mark h x g) = gap-class n g
-
-pub entry-moved : (n : ℕ) → n + 4 < 26 → 0 < y_at (n + 4) → n % 3 < 2
-entry-moved n l k = go (table-right (n + 4) (omega arith))
-  where
-    go : Entry (n + 4) → n % 3 < 2
-    go (monomial i h x e) = omega (arith, class_of (n + 4) i (y_at (n + 4)) h e)
-    go (mark h x g) = omega (arith, gap-class (n + 4) g)
-
-pub entry-dropped : (n : ℕ) → n + 4 < 26 → y_at (n + 4) ≡ 0 → n % 3 ≡ 2
-entry-dropped n l k = go (table-right (n + 4) (omega arith))
-  where
-    go : Entry (n + 4) → n % 3 ≡ 2
-    go (monomial i h x e) = omega (arith, class_of (n + 4) i (y_at (n + 4)) h e)
-    go (mark h x g) = absurd (omega arith)

@@ -18,9 +18,11 @@ use Rattle.ideal.specs.Poles.{IsGap, IsPole}
 use Rattle.field.specs.Residue.{Z}
 use Rattle.curve.specs.Curve.{Curve, Coordinate}
 use Rattle.curve.specs.Pole.{pole}
-use Rattle.curve.specs.Table.{y_at, x_at}
+use Rattle.curve.specs.Table.{y_at}
 use Rattle.vector.specs.Vector.{Vec, Top, at, row, element, x_to, y_to, scalar}
 use Rattle.vector.specs.Contract.{Added, AxpyAsked}
+use Rattle.terms.specs.declared.normal.Monomial.{Monomial}
+use Rattle.terms.specs.Monomial.{IsEntry}
 use Rattle.terms.specs.Contract.{RowsOf, TimesAsked, Times}
 use Rattle.vector.proofs.Loop.{zeros-at, zeros-vec}
 use Rattle.terms.proofs.Entry.{entry-class, entry-gap}
@@ -115,14 +117,19 @@ module _ {p e top n : ℕ} {b : List ℕ} {ys : List (List ℕ)} {r : List ℕ} 
       below m w k (yes d) = absurd (w (subst IsGap (sym d) (gap_of n q)))
       below m w k (no d) = omega arith
 
-  pub turn_asked : y_at n < 3 → AxpyAsked p r (at b n) (row ys (y_at n)) (x_at n) (top + 4 * y_at n)
-  turn_asked k = let (y, x, q) = entry-class n (omega (arith, h.inside)) k in rw (x, y) (part-asked q)
+  module _ {m : Monomial} (o : IsEntry n m) where
+    -- the entry's numbers by the class of n
+    by-class : (m.power ≡ n % 3) × (m.pole ≡ n - 4 * (n % 3)) × (4 * (n % 3) ≤ n)
+    by-class = let (y, x, q) = entry-class n (omega (arith, h.inside)) o.proper in (o.power ∙ y, o.pole ∙ x, q)
 
-  pub turn_more : {r' : List ℕ} → y_at n < 3 → Added p r (at b n) (row ys (y_at n)) (x_at n) (top + 4 * y_at n) r' → TimesPart p b (n + 1) ys top r'
-  turn_more k a = let (y, x, q) = entry-class n (omega (arith, h.inside)) k in part-more q (rw (sym x, sym y) a)
+    pub turn_asked : AxpyAsked p r (at b n) (row ys m.power) m.pole (top + 4 * m.power)
+    turn_asked = let (y, x, q) = by-class in rw (y, x) (part-asked q)
 
-  pub turn_skip : 3 ≤ y_at n → TimesPart p b (n + 1) ys top r
-  turn_skip k = part_skip (entry-gap n (omega (arith, h.inside)) k)
+    pub turn_more : {r' : List ℕ} → Added p r (at b n) (row ys m.power) m.pole (top + 4 * m.power) r' → TimesPart p b (n + 1) ys top r'
+    turn_more a = let (y, x, q) = by-class in part-more q (rw (sym x, sym y) a)
+
+  pub turn_skip : y_at n ≡ 3 → TimesPart p b (n + 1) ys top r
+  turn_skip k = part_skip (entry-gap n (omega (arith, h.inside)) (omega arith))
 
 pub part_as : {p n top : ℕ} {b : List ℕ} {ys : List (List ℕ)} {r r' : List ℕ} → r' ≡ r → TimesPart p b n ys top r → TimesPart p b n ys top r'
 part_as {p} {n} {top} {b} {ys} e t = subst (λ l. TimesPart p b n ys top l) (sym e) t

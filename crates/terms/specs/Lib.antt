@@ -1,2 +1,3 @@
--- The product of two vectors.
+-- The table of normal monomials, and the product of two vectors.
+pub mod Monomial
 pub mod Contract

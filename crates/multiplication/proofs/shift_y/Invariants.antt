@@ -1,5 +1,4 @@
--- `multiplication::shift_y` meets its contract. The loop's invariant: what it ensures holds for the places below n. What it
--- reads off the table is y_at (n + 4) by computation.
+-- `multiplication::shift_y` meets its contract. The loop's invariant: what it ensures holds for the places below n.
 use Rattle.multiplication.specs.Contract.{Shifted}
 use Rattle.multiplication.proofs.shift_y.Given as goal
 

@@ -1,30 +1,29 @@
--- `terms::times` meets its contract. The loop's invariant is TimesPart of proofs/Terms. What it reads off the table is
--- y_at n and x_at n by computation.
+-- `terms::times` meets its contract. The loop's invariant is TimesPart of proofs/Product.
 use native.Mathlib.Omega.{arith}
-use Rattle.terms.proofs.Entry.{entry-fits}
 use Rattle.terms.proofs.Product.{part-start, turn_asked, turn_more, turn_skip, part_end, part_as}
 use Rattle.terms.proofs.times.Goals as goal
-use Rattle.terms.proofs.times.Goals.{then-j-lt3, else-j-lt3}
+use Rattle.terms.proofs.times.Goals.{in-Some, in_default}
 
 pub loop-n-init : goal.loop-n-init
 loop-n-init c = part-start c.requires
 
-pub overflow_cast-j : goal.overflow_cast-j
-overflow_cast-j c = (entry-fits c.loop-n.n (omega arith)).0
+pub bounds-ys-j : goal.bounds-ys-j
+bounds-ys-j c = omega (arith, c.in-Some.ensures.power, c.in-Some.ensures.proper)
 
-pub overflow_cast-poles : goal.overflow_cast-poles
-overflow_cast-poles c = (entry-fits c.loop-n.n (omega arith)).1
+pub overflow_mul-j : goal.overflow_mul-j
+overflow_mul-j c = omega (arith, c.in-Some.ensures.power, c.in-Some.ensures.proper)
+
+pub overflow_add-top : goal.overflow_add-top
+overflow_add-top c = omega (arith, c.in-Some.ensures.power, c.in-Some.ensures.proper)
 
 pub axpy-requires : goal.axpy-requires
-axpy-requires c =
-    turn_asked c.requires c.loop-n.invariant
-    c.loop-n-test.true (omega arith)
+axpy-requires c = turn_asked c.requires c.loop-n.invariant c.loop-n-test.true c.in-Some.ensures
 
 pub loop-n-preserved : goal.loop-n-preserved
 loop-n-preserved c =
-    elim c.if-j-lt3.branch [
-      | then-j-lt3 w ↦ part_as w.out-is (turn_more c.requires c.loop-n.invariant c.loop-n-test.true (omega (arith, w.if-j-lt3.true)) w.axpy.ensures)
-      | else-j-lt3 w ↦ part_as w.out-is (turn_skip c.requires c.loop-n.invariant c.loop-n-test.true (omega (arith, w.if-j-lt3.false)))
+    elim c.match-at.branch [
+      | in-Some w ↦ part_as w.out-is (turn_more c.requires c.loop-n.invariant c.loop-n-test.true w.in-Some.ensures w.axpy.ensures)
+      | in_default w ↦ part_as w.out-is (turn_skip c.requires c.loop-n.invariant c.loop-n-test.true w.in_default.ensures)
     ]
 
 pub returns : goal.returns

@@ -1,5 +1,4 @@
--- `terms::times` meets its contract. The loop's invariant is TimesPart of proofs/Terms. What it reads off the table is
--- y_at n and x_at n by computation.
+-- `terms::times` meets its contract. The loop's invariant is TimesPart of proofs/Product.
 use Rattle.terms.proofs.Product.{TimesPart}
 use Rattle.terms.proofs.times.Given as goal
 
