@@ -4,6 +4,7 @@
 --   ServedOn c a b r       r says whether the formulas serve for the records a and b on the curve c; if they do it has the sum
 --   ServedOf g x y r       served: … for the records of x and y, on each curve with the ground g
 use Rattle.std.specs.Prelude.{◌≡◌, true, false, List, ℕ, ◌<◌, get_or}
+use Rattle.divisor.specs.Kind.{k31}
 use Rattle.ground.specs.declared.Ground.{Ground}
 use Rattle.basis.specs.declared.Divisor.{Divisor}
 use Rattle.usual.specs.declared.Tried.{Tried}
@@ -19,7 +20,7 @@ pub record ShortGround (g : Ground) : Type 0 where
   pub at_11 : get_or g.cube 11 0 ≡ 0
 
 pub record TypicalValue (x : Divisor) : Type 0 where
-  pub kind : x.kind ≡ 31
+  pub kind : x.kind ≡ k31
   pub second : ¬ (x.n2 ≡ 0)
 
 pub record ServedOn (c a b : List ℕ) (r : Tried) : Type 0 where
