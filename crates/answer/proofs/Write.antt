@@ -1,5 +1,4 @@
 -- What a call does with what was found: the curve's stages come first, the buffer last.
---   writable               a divisor that was found has the number of a kind
 --   writes_found           a divisor that was found is written, or the call is refused
 --   tally-given, tally-refused     a number of records that was found, or the cause
 use mathlib.Core.Path.{◌≡◌, sym, subst}
@@ -23,11 +22,7 @@ use Rattle.classes.specs.Found.{Found}
 use Rattle.lists.specs.Totals.{TallyFound}
 use Rattle.lists.specs.declared.TallyAnswer.{TallyAnswer}
 use Rattle.lists.specs.declared.TallyAnswer.TheVariants as count
-use Rattle.reply.specs.Written.{Writable, Wrote}
-
-pub writable : (c : List ℕ) (ss : List Stage) (Good : List ℕ → Type 0) (r : DivisorAnswer) → Found c ss Good r → Writable r
-writable c ss Good (answer.Divisor x) f = (f.1.2.kind, f.1.2.based.shaped.kind)
-writable c ss Good (answer.Refused n) f = tt
+use Rattle.reply.specs.Written.{Wrote}
 
 wrote_writes : (c : List ℕ) (ss : List Stage) (Good : List ℕ → Type 0) {out out' : List ℕ} {n : ℤ} (r : DivisorAnswer)
     → Passes (curve_stages c) → Found c ss Good r → Wrote r out n out' → Writes room (curve_stages c ++ ss) Good out n out'

@@ -3,6 +3,8 @@
 
 ghost use Rattle.bench_short.specs.Contract.{Shortens};
 
+use kind::Kind;
+
 // Writes the short form of a record whose numbers are below p, and returns its length; 0 for other bytes and for a buffer under 40 bytes.
 #[unsafe(no_mangle)]
 pub extern "C" fn bench_shorten(p: u32, divisor: &[u8], out: &mut [u8]) -> u32
@@ -14,7 +16,10 @@ pub extern "C" fn bench_shorten(p: u32, divisor: &[u8], out: &mut [u8]) -> u32
     if form::divisor_form(divisor) != 0 {
         return 0;
     }
-    let x = checks::value(divisor);
+    let Ok(kind) = Kind::try_from(layout::read_u16(divisor, 2)) else {
+        return 0;
+    };
+    let x = checks::value(kind, divisor);
     if !checks::all_below(p, x) {
         return 0;
     }

@@ -12,17 +12,15 @@ use native.Mathlib.Omega.{arith}
 use lib.ListN.{length, take, length-take}
 use lib.Seq.{take_at}
 use Rattle.text.specs.Put.{Put, Placed}
-use Rattle.divisor.specs.Kind.{Kind, code}
 use Rattle.basis.specs.declared.Divisor.{Divisor}
 use Rattle.record.specs.Cause.{Stage, FirstCause, Passes}
 use Rattle.record.specs.Curve.{curve_stages}
-use Rattle.kind.specs.Kinds.{Known}
 use Rattle.reader.specs.Contract.{WriteAnswer}
 use Rattle.reader.specs.Reading.{GivenOn}
 use Rattle.record.specs.Value.{bytes_of}
 use Rattle.record.proofs.Cause.{first_append, passes_append}
 use Rattle.divisor.proofs.Codes.{size-least, size-most}
-use Rattle.reader.proofs.Answer.{written_out}
+use Rattle.reader.proofs.Answer.{written_out, given-bytes}
 use Rattle.calls.specs.Call.{room, list_of}
 use Rattle.report.specs.Report.{refused_line, lines, refused, counted}
 use Rattle.tallies.specs.declared.Tallies.{Tallies}
@@ -35,9 +33,7 @@ use Rattle.counting.specs.Contract.{Printable, PassPut, PrintedOn}
 
 pub printable : (c : List ℕ) (ss : List Stage) (s : List ℕ) (r : PassAnswer) → PassFound c ss s r → Printable r
 printable c ss s (answer.All x t) f =
-    let z = f.1.2 in
-    let v = z.sum.2 in
-    ((v.kind, v.based.shaped.kind), (tallies_bounded z.tallies).most_typical)
+    (tallies_bounded f.1.2.tallies).most_typical
 printable c ss s (answer.Refused n) f = tt
 
 pub record Taken (x : Divisor) (n : ℕ) (out : List ℕ) : Type 0 where
@@ -48,21 +44,20 @@ pub record Taken (x : Divisor) (n : ℕ) (out : List ℕ) : Type 0 where
   pub is : (c w : List ℕ) → GivenOn c w x → take n out ≡ w
 
 module _ {x : Divisor} {out out' : List ℕ} {n : ℕ} (a : WriteAnswer x out out' n) where
-  bytes_taken : (κ : Kind) → x.kind ≡ code κ → take n out' ≡ bytes_of κ x
-  bytes_taken κ e =
-      let w = written_out x out out' n κ (a κ e) in
-      ap (take n) w.1 ∙ take_at (bytes_of κ x) _ n (sym w.0)
+  bytes_taken : take n out' ≡ bytes_of x.kind x
+  bytes_taken =
+      let w = written_out x out out' n a in
+      ap (take n) w.1 ∙ take_at (bytes_of x.kind x) _ n (sym w.0)
 
-  pub taken : Known x.kind → Taken x n out'
-  taken (κ, e) =
-      let long = (a κ e).long in
-      let full : n ≡ length (take n out') = (written_out x out out' n κ (a κ e)).0 ∙ ap length (sym (bytes_taken κ e)) in
+  pub taken : Taken x n out'
+  taken =
+      let full : n ≡ length (take n out') = (written_out x out out' n a).0 ∙ ap length (sym bytes_taken) in
       record {
-        least = omega (arith, long, size-least κ);
-        most = omega (arith, long, size-most κ);
+        least = omega (arith, a.long, size-least x.kind);
+        most = omega (arith, a.long, size-most x.kind);
         full = full;
         inside = omega (arith, full, length-take n out');
-        is = λ c w v. bytes_taken v.kind v.based.shaped.kind ∙ v.bytes;
+        is = λ c w v. bytes_taken ∙ given-bytes v;
       }
 
 module _ {p : PassAnswer} {out out' : List ℕ} {r : ℕ} where

@@ -1,11 +1,10 @@
 -- What the functions of the counting program require and ensure.
---   Printable p              a sum by value has the number of a kind, and no more records are typical than there are
+--   Printable p              no more records are typical than there are
 --   TextOf p out r out'      the buffer out has become out': what is printed for p stands at its start, in r bytes
 --   PassPut p out r out'     put_pass: …, at most the longest report's
 --   PrintedOn c s out r out'    put_report: the same of what is printed for the curve c and the list s
 use Rattle.std.specs.Prelude.{List, ℕ, ◌≤◌}
 use Rattle.text.specs.Put.{Put}
-use Rattle.kind.specs.Kinds.{Known}
 use Rattle.reader.specs.Reading.{GivenOn}
 use Rattle.report.specs.Report.{refused_line, lines, ReportOn}
 use Rattle.tallies.specs.Tallied.{TalliesOf}
@@ -14,7 +13,7 @@ use Rattle.pass.specs.declared.PassAnswer.{PassAnswer}
 use Rattle.pass.specs.declared.PassAnswer.TheVariants as answer
 
 abbrev pub Printable : PassAnswer → Type 0
-Printable (answer.All x t) = Known x.kind × (t.typical ≤ t.total)
+Printable (answer.All x t) = t.typical ≤ t.total
 Printable (answer.Refused n) = Unit
 
 abbrev pub TextOf : PassAnswer → (out : List ℕ) → ℕ → (out' : List ℕ) → Type 0

@@ -11,7 +11,7 @@ use lib.Dec.{eqb}
 use borrow.Author.Tests.{eq-eqb, ne_eqb}
 use Rattle.prime_field.specs.Field.{F}
 use Rattle.field.proofs.Invert.{prime-large}
-use Rattle.divisor.specs.Kind.{k0, IsBasis}
+use Rattle.divisor.specs.Kind.{k0, code, IsBasis}
 use Rattle.divisor.proofs.Class.{zero-basis}
 use Rattle.layout.specs.Layout.{number2}
 use Rattle.vector.specs.Vector.{at as entry}
@@ -24,6 +24,7 @@ use Rattle.record.specs.Curve.{modulus, equation, AcceptedCurve, accepted_prime,
 use Rattle.reader.specs.Reading.{On, GivenOn}
 use Rattle.record.specs.Value.{bytes_of}
 use Rattle.record.proofs.Written.{bytes_of-kind}
+use Rattle.reader.proofs.Answer.{given-bytes}
 use Rattle.calls.specs.Call.{tally, one_if}
 use Rattle.calls.specs.Class.{zero_record, IsListSum}
 use Rattle.calls.proofs.Class.{zero-accepted}
@@ -71,16 +72,16 @@ tally-more kind [] w = omega arith
 tally-more kind (r ∷ rs) w = omega (arith, tally-more kind rs w)
 
 -- the kind that a record has in its bytes
-given-kind : (c w : List ℕ) {x : Divisor} → GivenOn c w x → x.kind ≡ number2 w 2
-given-kind c w {x} v = v.based.shaped.kind ∙ sym (bytes_of-kind v.kind x) ∙ ap (λ (t : List ℕ). number2 t 2) v.bytes
+given-kind : (c w : List ℕ) {x : Divisor} → GivenOn c w x → code x.kind ≡ number2 w 2
+given-kind c w {x} v = sym (bytes_of-kind x.kind x) ∙ ap (λ (t : List ℕ). number2 t 2) (given-bytes v)
 
 module _ {g : Ground} {x : Divisor} (kind n : ℕ) where
-  tallied_more : (i : ℕ) → one_if (eqb x.kind kind) ≡ i → More g x (Tallied kind n) (Tallied kind (n + i))
+  tallied_more : (i : ℕ) → one_if (eqb (code x.kind) kind) ≡ i → More g x (Tallied kind n) (Tallied kind (n + i))
   tallied_more i u c o rs w a v z =
       omega (arith, z, tally-more kind rs w, sym (ap (λ (k : ℕ). one_if (eqb k kind)) (given-kind c w v)) ∙ u)
 
-  pub tallied_yes : x.kind ≡ kind → More g x (Tallied kind n) (Tallied kind (n + 1))
-  tallied_yes e = tallied_more 1 (ap one_if (eq-eqb x.kind kind e))
+  pub tallied_yes : code x.kind ≡ kind → More g x (Tallied kind n) (Tallied kind (n + 1))
+  tallied_yes e = tallied_more 1 (ap one_if (eq-eqb (code x.kind) kind e))
 
-  pub tallied_no : ¬ (x.kind ≡ kind) → More g x (Tallied kind n) (Tallied kind n)
-  tallied_no e c o rs w a v z = omega (arith, tallied_more 0 (ap one_if (ne_eqb x.kind kind e)) c o rs w a v z)
+  pub tallied_no : ¬ (code x.kind ≡ kind) → More g x (Tallied kind n) (Tallied kind n)
+  tallied_no e c o rs w a v z = omega (arith, tallied_more 0 (ap one_if (ne_eqb (code x.kind) kind e)) c o rs w a v z)

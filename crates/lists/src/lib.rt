@@ -76,7 +76,7 @@ fn tally(g: Ground, list: &[u8], kind: u32) -> TallyAnswer
         let read = reader::read_next(g, &list[at..]);
         match read {
             NextAnswer::Next(x, n) => {
-                if x.kind == kind {
+                if x.kind.code() == kind {
                     count += 1;
                 }
                 at += n;

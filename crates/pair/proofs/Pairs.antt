@@ -37,10 +37,10 @@ module _ {g : Ground} (a b : ℕ) where
   pub pair_outside : ¬ ((a < g.p) × (b < g.p)) → OnCurves g (λ c. PairRead c (a, b) (answer.Refused 8))
   pair_outside n c o = inl (λ h. n ((at_ground c o).0 h), refl)
 
-  module _ {f0 g0 : ℕ} (is_f : Is g.p f0 ((Z g.p).neg (el g.p a))) (is-g : Is g.p g0 ((Z g.p).neg (el g.p b))) {x : Divisor} (is_x : x ≡ of_four 11 f0 g0 0 0) where
+  module _ {f0 g0 : ℕ} (is_f : Is g.p f0 ((Z g.p).neg (el g.p a))) (is-g : Is g.p g0 ((Z g.p).neg (el g.p b))) {x : Divisor} (is_x : x ≡ of_four k11 f0 g0 0 0) where
     -- the divisor is that of the point by value
     value_is : (c : List ℕ) → On c g → x ≡ point-value c (a, b)
-    value_is c o = is_x ∙ ap₂ (λ (m n : ℕ). of_four 11 m n 0 0) (at-modulus f0 a is_f) (at-modulus g0 b is-g)
+    value_is c o = is_x ∙ ap₂ (λ (m n : ℕ). of_four k11 m n 0 0) (at-modulus f0 a is_f) (at-modulus g0 b is-g)
       where
         at-modulus : (n m : ℕ) → Is g.p n ((Z g.p).neg (el g.p m)) → n ≡ num (modulus c) ((Z (modulus c)).neg (el (modulus c) m))
         at-modulus n m h =

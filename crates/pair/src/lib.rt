@@ -7,6 +7,7 @@ ghost use Rattle.classes.specs.Found.{Curved, OnCurves};
 ghost use Rattle.pair.specs.Contract.{PairRead};
 
 use ground::Ground;
+use kind::Kind;
 use reader::DivisorAnswer;
 
 // Are both coordinates below p?
@@ -33,7 +34,7 @@ pub fn read_pair(g: Ground, a: u32, b: u32) -> DivisorAnswer
     }
     let f0 = field::neg(g.p, a);
     let g0 = field::neg(g.p, b);
-    let x = basis::of_four(11, f0, g0, 0, 0);
+    let x = basis::of_four(Kind::K11, f0, g0, 0, 0);
     if !basis::is_basis(g.p, &g.cube, x) {
         return DivisorAnswer::Refused(9);
     }

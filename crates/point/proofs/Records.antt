@@ -14,7 +14,7 @@ use Rattle.field.specs.Residue.{Z, el, num}
 use Rattle.field.proofs.Element.{num-lt, el-num}
 use Rattle.field.proofs.Invert.{prime-large}
 use Rattle.ideal.specs.Ideal.{SameIdeal}
-use Rattle.divisor.specs.Kind.{code, k11, IdealOf, IsBasis}
+use Rattle.divisor.specs.Kind.{k11, IdealOf, IsBasis}
 use Rattle.vector.specs.Vector.{at}
 use Rattle.basis.specs.Divisor.{of_four, numbers_of, residues, Shaped, BasisValue}
 use Rattle.basis.specs.declared.Divisor.{Divisor}
@@ -30,7 +30,7 @@ module _ (c : List ℕ) where
   p = modulus c
 
   abbrev pub point-value : Pair → Divisor
-  point-value (a, b) = of_four (code k11) (num p ((Z p).neg (el p a))) (num p ((Z p).neg (el p b))) 0 0
+  point-value (a, b) = of_four k11 (num p ((Z p).neg (el p a))) (num p ((Z p).neg (el p b))) 0 0
 
   pub point-bytes : (q : Pair) → bytes_of k11 (point-value q) ≡ point_record c q
   unfolding bytes_of

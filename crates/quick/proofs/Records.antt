@@ -17,14 +17,13 @@ use Rattle.field.specs.Residue.{Z, el}
 use Rattle.field.proofs.Element.{el-zero, el_inj}
 use Rattle.field.proofs.Invert.{prime-large}
 use Rattle.curve.specs.Curve.{Curve}
-use Rattle.divisor.specs.Kind.{Kind, k31, code}
+use Rattle.divisor.specs.Kind.{Kind, k31}
 use Rattle.columns.specs.Pivots.{pivot_sum, pivot_double}
 use Rattle.layout.specs.Layout.{number4, record_bytes}
 use Rattle.equation.specs.Equation.{curve_of}
 use Rattle.ground.specs.declared.Ground.{Ground}
 use Rattle.basis.specs.declared.Divisor.{Divisor}
 use Rattle.basis.specs.Divisor.{numbers_of, residues, BasisValue}
-use Rattle.basis.proofs.Choice.{only}
 use Rattle.record.specs.Curve.{modulus, coefficient_number, equation, limit, accepted_prime, accepted_limit, accepted_below}
 use Rattle.record.specs.Divisor.{OfKind, number_at}
 use Rattle.record.specs.Value.{bytes_of}
@@ -45,9 +44,9 @@ pub record Given31 (c a : List ℕ) (x : Divisor) : Type 0 where
   pub limited : modulus c ≤ limit
 
 module _ {c a : List ℕ} {x : Divisor} where
-  pub given_31 : modulus c ≤ limit → GivenOn c a x → x.kind ≡ 31 → Given31 c a x
+  pub given_31 : modulus c ≤ limit → GivenOn c a x → x.kind ≡ k31 → Given31 c a x
   given_31 l v e =
-      let q = sym (only v.kind k31 e v.based.shaped) in
+      let q = sym v.based.shaped.kind ∙ e in
       record { based = subst (λ κ. BasisValue (modulus c) (equation c) κ x) q v.based; bytes = subst (λ κ. bytes_of κ x ≡ a) q v.bytes; limited = l }
 
   pub given-number : Given31 c a x → (i : ℕ) → i < 9 → number4 a (4 + 4 * i) ≡ get_or (numbers_of x) i 0
@@ -63,10 +62,10 @@ module _ {c a : List ℕ} {x : Divisor} where
 pub typical-back : (c a : List ℕ) (x : Divisor) → modulus c ≤ limit → GivenOn c a x → Typical a → TypicalValue x
 typical-back c a x l v t = record { kind = kind; second = λ e. t.second (given-number (given_31 l v kind) 2 (omega arith) ∙ e) }
   where
-    kind : x.kind ≡ 31
+    kind : x.kind ≡ k31
     kind =
         v.based.shaped.kind
-        ∙ ap code (same_kind a v.kind k31 (subst (λ s. OfKind s v.kind) v.bytes (bytes_of-kind v.kind x)) t.kind)
+        ∙ (same_kind a v.kind k31 (subst (λ s. OfKind s v.kind) v.bytes (bytes_of-kind v.kind x)) t.kind)
 
 -- nine elements by place
 abbrev places : {A : Type 0} → A → A → A → A → A → A → A → A → A → ℕ → A

@@ -4,6 +4,7 @@
 --   ServedOn c a b r       the formulas serve for the records a and b on the curve c exactly where r has a value, and this is the sum
 --   ServedOf g x y r       served: … for the records of x and y, on each curve with the ground g
 use Rattle.std.specs.Prelude.{◌≡◌, List, ℕ, ◌<◌, get_or, Option, IfSome, IfNone}
+use Rattle.divisor.specs.Kind.{k31}
 use Rattle.ground.specs.declared.Ground.{Ground}
 use Rattle.basis.specs.declared.Divisor.{Divisor}
 use Rattle.reader.specs.Reading.{GivenOn}
@@ -18,7 +19,7 @@ pub record ShortGround (g : Ground) : Type 0 where
   pub at_11 : get_or g.cube 11 0 ≡ 0
 
 pub record TypicalValue (x : Divisor) : Type 0 where
-  pub kind : x.kind ≡ 31
+  pub kind : x.kind ≡ k31
   pub second : ¬ (x.n2 ≡ 0)
 
 pub record ServedOn (c a b : List ℕ) (r : Option Divisor) : Type 0 where

@@ -7,6 +7,7 @@ ghost use Rattle.quick.specs.Served.{ShortGround, TypicalValue, ServedOf};
 
 use basis::Divisor;
 use ground::Ground;
+use kind::Kind;
 
 // Is p above 3, and are c5, c6 and c8 zero?
 fn short_form(g: Ground) -> bool
@@ -31,7 +32,7 @@ fn short_form(g: Ground) -> bool
 fn is_typical(x: Divisor) -> bool
     ensures { Answers (TypicalValue x) result }
 {
-    if x.kind != 31 {
+    if x.kind != Kind::K31 {
         return false;
     }
     if x.n2 == 0 {

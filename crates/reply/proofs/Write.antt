@@ -1,5 +1,4 @@
 -- A divisor that was found is written.
---   known                  a divisor that was found has the number of a kind
 --   write_asked, write_fits, wrote     its record is written
 --   wrote_answer           … of the answer that was matched
 use mathlib.Core.Path.{◌≡◌, sym, ◌∙◌, ap, ap₂, subst}
@@ -13,38 +12,32 @@ use mir.Val.{SFits, to_z}
 use mir.Facts.{to_z_pos}
 use Rattle.divisor.specs.Kind.{size}
 use Rattle.basis.specs.declared.Divisor.{Divisor}
-use Rattle.reader.specs.Contract.{WriteAsked, Written, WriteAnswer}
-use Rattle.kind.specs.Kinds.{Known}
+use Rattle.reader.specs.Contract.{WriteAsked, WriteAnswer}
 use Rattle.reader.specs.Reading.{GivenOn}
 use Rattle.reader.specs.declared.DivisorAnswer.{DivisorAnswer}
 use Rattle.reader.specs.declared.DivisorAnswer.TheVariants as answer
 use Rattle.divisor.proofs.Codes.{size-most}
 use Rattle.record.proofs.Written.{length_bytes_of}
+use Rattle.reader.proofs.Answer.{given-bytes}
 use Rattle.calls.specs.Answer.{Gives}
 use Rattle.calls.specs.Call.{room}
-use Rattle.reply.specs.Written.{Writable, Wrote}
+use Rattle.reply.specs.Written.{Wrote}
 
-pub known : (r : DivisorAnswer) {x : Divisor} → Writable r → r ≡ answer.Divisor x → Known x.kind
-known r h e = subst Writable e h
-
-module _ {x : Divisor} {out : List ℕ} (k : Known x.kind) where
+module _ {x : Divisor} {out : List ℕ} where
   pub write_asked : room ≤ length out → WriteAsked x out
-  write_asked l = record { kind = k.0; is = k.1; room = omega (arith, size-most k.0, l) }
+  write_asked l = record { room = omega (arith, size-most x.kind, l) }
 
   pub write_fits : {out' : List ℕ} {n : ℕ} → WriteAnswer x out out' n → SFits w32 (pos n)
-  write_fits a = record { sfits = omega (arith, size-most k.0, (a k.0 k.1).long) }
+  write_fits a = record { sfits = omega (arith, size-most x.kind, a.long) }
 
 pub wrote : {x : Divisor} {out out' : List ℕ} {n : ℕ} → WriteAnswer x out out' n → (c w : List ℕ) → GivenOn c w x → Gives w out (to_z w32 n) out'
 wrote {x} {out} {out'} {n} a c w g = (
-  to_z_pos w32 {n = n} (omega (arith, size-most g.kind, h.long)) ∙ ap pos (h.long ∙ long),
-  h.bytes ∙ ap₂ (λ (s : List ℕ) (m : ℕ). s ++ drop m out) g.bytes long,
+  to_z_pos w32 {n = n} (omega (arith, size-most x.kind, a.long)) ∙ ap pos (a.long ∙ long),
+  a.bytes ∙ ap₂ (λ (s : List ℕ) (m : ℕ). s ++ drop m out) (given-bytes g) long,
 )
   where
-    h : Written x out out' n g.kind
-    h = a g.kind g.based.shaped.kind
-
-    long : size g.kind ≡ length w
-    long = sym (length_bytes_of g.kind x) ∙ ap length g.bytes
+    long : size x.kind ≡ length w
+    long = sym (length_bytes_of x.kind x) ∙ ap length (given-bytes g)
 
 -- the answer as read of an enum
 pub wrote_answer : (out : List ℕ) (n : ℤ) (out' : List ℕ) (r s : DivisorAnswer) → r ≡ s → Wrote s out n out' → Wrote r out n out'

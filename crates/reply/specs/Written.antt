@@ -1,17 +1,11 @@
--- What `written` requires and ensures.
---   Writable r             a divisor by value has the number of a kind
+-- What `written` ensures.
 --   Wrote r out n out'     a divisor is written at the start of a buffer that has room; a short buffer and a refusal leave it as it was
 use Rattle.std.specs.Prelude.{◌≡◌, List, ℕ, ◌<◌, ◌≤◌, length, ℤ}
-use Rattle.kind.specs.Kinds.{Known}
 use Rattle.reader.specs.Reading.{GivenOn}
 use Rattle.reader.specs.declared.DivisorAnswer.{DivisorAnswer}
 use Rattle.reader.specs.declared.DivisorAnswer.TheVariants as answer
 use Rattle.calls.specs.Answer.{minus, Gives}
 use Rattle.calls.specs.Call.{room}
-
-abbrev pub Writable : DivisorAnswer → Type 0
-Writable (answer.Divisor x) = Known x.kind
-Writable (answer.Refused n) = Unit
 
 abbrev pub Wrote : DivisorAnswer → (out : List ℕ) → ℤ → (out' : List ℕ) → Type 0
 Wrote (answer.Divisor x) out n out' =

@@ -3,7 +3,7 @@
 
 ghost use Rattle.std.specs.Prelude.{◌≡◌};
 ghost use Rattle.calls.specs.Answer.{minus};
-ghost use Rattle.reply.specs.Written.{Writable, Wrote};
+ghost use Rattle.reply.specs.Written.{Wrote};
 
 use reader::DivisorAnswer;
 
@@ -17,7 +17,6 @@ pub fn refusal(n: u8) -> i32
 // Writes the record of a divisor that was found at the start of `out`, and returns its length; refuses a buffer that is too short, and what was
 // refused before.
 pub fn written(found: DivisorAnswer, out: &mut [u8]) -> i32
-    requires { Writable found }
     ensures { Wrote found out.old result out.new }
 {
     match found {

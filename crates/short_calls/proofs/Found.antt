@@ -24,6 +24,7 @@ use Rattle.record.proofs.Cause.{passes_append, first_append}
 use Rattle.record.proofs.Written.{bytes_of-kind, bytes_of-number}
 use Rattle.equation.specs.declared.Equation.{Equation}
 use Rattle.reader.specs.Reading.{CurveRead, DivisorRead, GivenOn}
+use Rattle.reader.proofs.Answer.{given-bytes}
 use Rattle.reader.specs.declared.CurveAnswer.{CurveAnswer}
 use Rattle.reader.specs.declared.CurveAnswer.TheVariants as curve
 use Rattle.reader.specs.declared.DivisorAnswer.{DivisorAnswer}
@@ -39,7 +40,7 @@ use Rattle.short_calls.specs.Contract.{ShortWritable, ShortWrote}
 
 module _ (c a : List ℕ) (x : Divisor) (small : modulus c ≤ 4294967296) (g : GivenOn c a x) where
   abbrev κ : Kind
-  κ = g.kind
+  κ = x.kind
 
   -- the numbers of the record are those of the value
   given-numbers : numbers a 4 (count κ) ≡ take (count κ) (numbers_of x)
@@ -53,14 +54,14 @@ module _ (c a : List ℕ) (x : Divisor) (small : modulus c ≤ 4294967296) (g : 
       (λ i l.
       let few : i < count κ = omega (arith, length_numbers a 4 (count κ)) in
       numbers-at a 4 (count κ) i few
-      ∙ ap (λ (s : List ℕ). number4 s (4 + 4 * i)) (sym g.bytes)
+      ∙ ap (λ (s : List ℕ). number4 s (4 + 4 * i)) (sym (given-bytes g))
       ∙ bytes_of-number κ x (λ j. omega (arith, g.based.shaped.below j)) i few
       ∙ sym (get_or-take (count κ) (numbers_of x) i 0 few))
 
   given-short : IsShort c a (short_of_value (modulus c) κ x)
   given-short = (
     κ,
-    subst (λ (s : List ℕ). OfKind s κ) g.bytes (bytes_of-kind κ x),
+    subst (λ (s : List ℕ). OfKind s κ) (given-bytes g) (bytes_of-kind κ x),
     ap (short_bytes (modulus c) κ) (sym given-numbers),
   )
 
@@ -73,7 +74,7 @@ module _ (c a : List ℕ) (p : ℕ) (is : p ≡ modulus c) where
   short_writable r h = subst (λ (q : ℕ). ShortWritable q r) (sym is) (there r h)
     where
       there : (r : DivisorAnswer) → DivisorRead (modulus c) (equation c) a r → ShortWritable (modulus c) r
-      there (answer.Divisor x) g = (g.kind, g.based.shaped)
+      there (answer.Divisor x) g = record { kind = refl; below = g.based.shaped.below }
       there (answer.Refused n) f = tt
 
   wrote_short : (small : modulus c ≤ 4294967296) {out out' : List ℕ} {n : ℤ} (r : DivisorAnswer) → Passes (curve_stages c)
@@ -88,8 +89,8 @@ module _ (c a : List ℕ) (p : ℕ) (is : p ≡ modulus c) where
           let z = h.0 l in
           writes_short (curve_stages c ++ divisor_of c a) all l z.0 z.1
       go (no l) =
-          let z = h.1 (omega arith) g.kind g.based.shaped.kind in
-          writes_enough (curve_stages c ++ divisor_of c a) all (short_of_value (modulus c) g.kind x) (omega arith) (given-short c a x small g) z.0 z.1
+          let z = h.1 (omega arith) in
+          writes_enough (curve_stages c ++ divisor_of c a) all (short_of_value (modulus c) x.kind x) (omega arith) (given-short c a x small g) z.0 z.1
   wrote_short small (answer.Refused k) pass f h =
       writes_refused (curve_stages c ++ divisor_of c a) k ((first_append (curve_stages c) (divisor_of c a) k).1 (inr (pass, f))) h.0 h.1
 

@@ -11,28 +11,27 @@ use lib.ListN.{length, take, drop}
 use lib.Seq.{take_at}
 use Rattle.field.specs.Residue.{Z}
 use Rattle.curve.specs.Curve.{Curve}
-use Rattle.divisor.specs.Kind.{Kind, code, size}
+use Rattle.divisor.specs.Kind.{size}
 use Rattle.divisor.proofs.Codes.{size-most}
 use Rattle.basis.specs.declared.Divisor.{Divisor}
 use Rattle.record.specs.Value.{bytes_of}
 use Rattle.record.proofs.Written.{length_bytes_of}
-use Rattle.kind.specs.Kinds.{Known}
 use Rattle.reader.specs.Contract.{WriteAsked, WriteAnswer}
 use Rattle.reader.specs.Reading.{DivisorRead}
 use Rattle.reader.specs.declared.DivisorAnswer.{DivisorAnswer}
 
 module _ {x : Divisor} {out : List ℕ} where
-  pub value_asked : Known x.kind → 40 ≤ length out → WriteAsked x out
-  value_asked k l = record { kind = k.0; is = k.1; room = omega (arith, size-most k.0, l) }
+  pub value_asked : 40 ≤ length out → WriteAsked x out
+  value_asked l = record { room = omega (arith, size-most x.kind, l) }
 
-  pub value-long : {out' : List ℕ} {n : ℕ} → Known x.kind → WriteAnswer x out out' n → n ≤ 40
-  value-long k a = omega (arith, (a k.0 k.1).long, size-most k.0)
+  pub value-long : {out' : List ℕ} {n : ℕ} → WriteAnswer x out out' n → n ≤ 40
+  value-long a = omega (arith, a.long, size-most x.kind)
 
   pub value_read : (p : ℕ) (C : Curve (Z p)) (out' : List ℕ) (n : ℕ) (r : DivisorAnswer) → WriteAnswer x out out' n → DivisorRead p C (take (n - 0) out') r
-      → (κ : Kind) → x.kind ≡ code κ → DivisorRead p C (bytes_of κ x) r
-  value_read p C out' n r a h κ e = subst (λ (s : List ℕ). DivisorRead p C s r) same h
+      → DivisorRead p C (bytes_of x.kind x) r
+  value_read p C out' n r a h = subst (λ (s : List ℕ). DivisorRead p C s r) same h
     where
-      same : take (n - 0) out' ≡ bytes_of κ x
+      same : take (n - 0) out' ≡ bytes_of x.kind x
       same =
-          ap₂ (λ (m : ℕ) (s : List ℕ). take m s) (sub-zero n ∙ (a κ e).long) (a κ e).bytes
-          ∙ take_at (bytes_of κ x) (drop (size κ) out) (size κ) (length_bytes_of κ x)
+          ap₂ (λ (m : ℕ) (s : List ℕ). take m s) (sub-zero n ∙ a.long) a.bytes
+          ∙ take_at (bytes_of x.kind x) (drop (size x.kind) out) (size x.kind) (length_bytes_of x.kind x)

@@ -4,13 +4,13 @@
 ghost use Rattle.std.specs.Prelude.{◌<◌, ◌≤◌};
 ghost use Rattle.algebra.specs.Answers.{Answers};
 ghost use Rattle.ground.specs.Ground.{Grounded, AtGround};
-ghost use Rattle.kind.specs.Kinds.{Known};
 ghost use Rattle.form.specs.Contract.{Checked};
-ghost use Rattle.short.specs.Short.{short_form};
-ghost use Rattle.short_reader.specs.Reading.{ShortAsked, Number, ShortValue, FillingZero, ValueRead, ShortRead};
+ghost use Rattle.short.specs.Short.{OfShort, short_form};
+ghost use Rattle.short_reader.specs.Reading.{ShortAsked, Number, ValueOf, FillingZero, ValueRead, ShortRead};
 
 use basis::Divisor;
 use ground::Ground;
+use kind::Kind;
 use reader::DivisorAnswer;
 
 // The refusal of a short record for its size, its kind or its kind's length; 0 for none.
@@ -26,11 +26,11 @@ fn short_form(p: u32, s: &[u8]) -> u8
         return 7;
     }
     let old = code - 100;
-    if !kind::is_kind(old) {
+    let Ok(kind) = Kind::try_from(old) else {
         return 7;
-    }
+    };
     let w = packing::bit_length(p - 1) as usize;
-    let size = 4 + (w * kind::count_of(old) + 7) / 8;
+    let size = 4 + (w * kind.count() + 7) / 8;
     if s.len() != size {
         return 6;
     }
@@ -50,13 +50,12 @@ fn number(s: &[u8], w: u32, count: usize, i: usize) -> u32
     0
 }
 
-// The divisor by value for which a short record stands.
-fn value(p: u32, s: &[u8]) -> Divisor
-    requires { ShortAsked p s.now }
-    ensures { ShortValue p s.now result }
+// The divisor of a kind with the numbers of a short record.
+fn value(p: u32, kind: Kind, s: &[u8]) -> Divisor
+    requires { 0 < p }
+    ensures { ValueOf p s.now kind result }
 {
-    let kind = layout::read_u16(s, 2) - 100;
-    let count = kind::count_of(kind);
+    let count = kind.count();
     let w = packing::bit_length(p - 1);
     Divisor {
         kind,
@@ -72,14 +71,14 @@ fn value(p: u32, s: &[u8]) -> Divisor
     }
 }
 
-// Are the bits behind the last number zero?
-fn filling_zero(p: u32, s: &[u8]) -> bool
-    requires { ShortAsked p s.now }
+// Are the bits behind the last number zero? The record stands for one of the kind.
+fn filling_zero(p: u32, kind: Kind, s: &[u8]) -> bool
+    requires asked { ShortAsked p s.now }
+    requires of_kind { OfShort s.now kind }
     ensures { Answers (FillingZero p s.now) result }
 {
-    let kind = layout::read_u16(s, 2) - 100;
     let w = packing::bit_length(p - 1) as usize;
-    let from = 32 + w * kind::count_of(kind);
+    let from = 32 + w * kind.count();
     let rest = unpacking::read_bits(s, from, 8);
     if rest != 0 {
         return false;
@@ -89,8 +88,7 @@ fn filling_zero(p: u32, s: &[u8]) -> bool
 
 // A divisor by value on the curve of g: accepted or refused as its record is.
 fn read_value(g: Ground, x: Divisor) -> DivisorAnswer
-    requires grounded { Grounded g }
-    requires known { Known x.kind }
+    requires { Grounded g }
     ensures { AtGround g (λ p C. ValueRead p C x result) }
 {
     let mut bytes = [0u8; 40];
@@ -107,8 +105,11 @@ pub fn read_short(g: Ground, s: &[u8]) -> DivisorAnswer
     if form != 0 {
         return DivisorAnswer::Refused(form);
     }
-    let x = value(g.p, s);
-    let zero = filling_zero(g.p, s);
+    let Ok(kind) = Kind::try_from(layout::read_u16(s, 2) - 100) else {
+        return DivisorAnswer::Refused(7);
+    };
+    let x = value(g.p, kind, s);
+    let zero = filling_zero(g.p, kind, s);
     let read = read_value(g, x);
     match read {
         DivisorAnswer::Divisor(r) => {

@@ -1,6 +1,7 @@
 -- Tallies of one record more, and their bounds.
 --   tallies_bounded    each tally is at most the number of all records
 --   record_given       an accepted record is that of the divisor by value that was read
+--   same_code          two kinds are the same exactly if their numbers are
 --   typical_value      a record is typical exactly if the divisor by value has the kind 31, with a third number that is not zero
 --   tallies-more       the tallies of a list and one record more
 use mathlib.Core.Path.{◌≡◌, refl, sym, ap, ap₂, ◌∙◌}
@@ -10,6 +11,12 @@ use Prim.Native.Nat.{ℕ, ◌+◌, ◌*◌, ◌≤◌}
 use native.Mathlib.Omega.{arith}
 use lib.ListN.{length, length-append}
 use lib.Dec.{eqb}
+use denote.Enum.Bare.{sameb, same_true, true_same}
+use borrow.Author.Rules.{rules}
+use borrow.Author.Tests.{eq-eqb, ne_eqb}
+use native.Mathlib.Decide.{ℕ_discrete}
+use Rattle.divisor.proofs.Codes.{code_injective}
+use Rattle.kind.specs.contracts.Kind.{the_type}
 use Rattle.field.specs.Residue.{Z}
 use Rattle.curve.specs.Curve.{Curve}
 use Rattle.divisor.specs.Kind.{Kind, k0, k11, k21, k22, k31, code}
@@ -17,6 +24,7 @@ use Rattle.layout.specs.Layout.{Words, number2, number4}
 use Rattle.basis.specs.Divisor.{numbers_of}
 use Rattle.basis.specs.declared.Divisor.{Divisor}
 use Rattle.reader.specs.Reading.{DivisorGiven}
+use Rattle.reader.proofs.Answer.{given-bytes}
 use Rattle.record.specs.Value.{bytes_of}
 use Rattle.record.proofs.Written.{bytes_of-kind, bytes_of-number}
 use Rattle.calls.specs.Call.{one_if, tally}
@@ -59,18 +67,16 @@ typicals-more (s ∷ rs) r = omega (arith, typicals-more rs r)
 pub record_given : (p : ℕ) (C : Curve (Z p)) → p ≤ 4294967296 → {s : List ℕ} {x : Divisor} → DivisorGiven p C s x → HasRecord x s
 record_given p C fits g =
     record {
-      kind = g.kind;
-      is_kind = g.based.shaped.kind;
       words = λ i. omega (arith, g.based.shaped.below i);
-      bytes = g.bytes;
+      bytes = given-bytes g;
     }
 
 module _ {x : Divisor} {r : List ℕ} (h : HasRecord x r) where
-  kind_read : number2 r 2 ≡ x.kind
-  kind_read = ap (λ (s : List ℕ). number2 s 2) (sym h.bytes) ∙ bytes_of-kind h.kind x ∙ sym h.is_kind
+  kind_read : number2 r 2 ≡ code x.kind
+  kind_read = ap (λ (s : List ℕ). number2 s 2) (sym h.bytes) ∙ bytes_of-kind x.kind x
 
   -- one tally with one record more
-  tally-of : (kind : ℕ) (rs : List (List ℕ)) {n m : ℕ} → n ≡ tally kind rs → OneIf (eqb x.kind kind) m → n + m ≡ tally kind (rs ++ r ∷ [])
+  tally-of : (kind : ℕ) (rs : List (List ℕ)) {n m : ℕ} → n ≡ tally kind rs → OneIf (eqb (code x.kind) kind) m → n + m ≡ tally kind (rs ++ r ∷ [])
   tally-of kind rs e f =
       ap₂ (λ (i j : ℕ). i + j) e (f.is ∙ ap (λ (i : ℕ). one_if (eqb i kind)) (sym kind_read)) ∙ sym (tally-more kind rs r)
 
@@ -83,13 +89,24 @@ third_read k21 x w = refl
 third_read k22 x w = refl
 third_read k31 x w = ap (λ (n : ℕ). not (eqb n 0)) (bytes_of-number k31 x w 2 (omega arith))
 
-pub typical_value : (x : Divisor) (b : Bool) → eqb x.kind 31 ≡ b → TypicalTest x (b && not (eqb x.n2 0))
+pub typical_value : (x : Divisor) (b : Bool) → eqb (code x.kind) 31 ≡ b → TypicalTest x (b && not (eqb x.n2 0))
 typical_value x b e r h =
-    rw (← e, h.is_kind, ← h.bytes, bytes_of-kind h.kind x) (sym (third_read h.kind x h.words))
+    rw (← e, ← h.bytes, bytes_of-kind x.kind x) (sym (third_read x.kind x h.words))
+
+pub same_code : (κ ν : Kind) → sameb the_type κ ν ≡ eqb (code κ) (code ν)
+same_code κ ν = go (ℕ_discrete (code κ) (code ν))
+  where
+    false_of : (b : Bool) → ¬ (b ≡ true) → b ≡ false
+    false_of true h = absurd (h refl)
+    false_of false h = refl
+
+    go : Dec (code κ ≡ code ν) → sameb the_type κ ν ≡ eqb (code κ) (code ν)
+    go (yes e) = true_same the_type κ ν (code_injective κ ν e) ∙ sym (eq-eqb (code κ) (code ν) e)
+    go (no n) = false_of _ (λ h. n (ap code (same_true the_type (search rules) κ ν h))) ∙ sym (ne_eqb (code κ) (code ν) n)
 
 module _ (t : Tallies) (x : Divisor) {m0 m11 m21 m22 m31 mt : ℕ} (b : Bool) (typical-is : TypicalTest x b)
-    (e0 : OneIf (eqb x.kind 0) m0) (e11 : OneIf (eqb x.kind 11) m11) (e21 : OneIf (eqb x.kind 21) m21)
-    (e22 : OneIf (eqb x.kind 22) m22) (e31 : OneIf (eqb x.kind 31) m31) (et : OneIf b mt) where
+    (e0 : OneIf (eqb (code x.kind) 0) m0) (e11 : OneIf (eqb (code x.kind) 11) m11) (e21 : OneIf (eqb (code x.kind) 21) m21)
+    (e22 : OneIf (eqb (code x.kind) 22) m22) (e31 : OneIf (eqb (code x.kind) 31) m31) (et : OneIf b mt) where
   pub tallies-more : AddedTo t x
       (record {
         n0 = t.n0 + m0;

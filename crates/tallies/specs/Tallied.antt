@@ -6,7 +6,6 @@
 --   TypicalTest x b      typical: is the record of x typical
 --   AddedTo t x t'       add: t' counts one record more than t, that of x
 use Rattle.std.specs.Prelude.{◌≡◌, Bool, List, [], ◌∷◌, ◌++◌, ℕ, ◌≤◌, length}
-use Rattle.divisor.specs.Kind.{Kind, code}
 use Rattle.layout.specs.Layout.{Words}
 use Rattle.basis.specs.Divisor.{numbers_of}
 use Rattle.basis.specs.declared.Divisor.{Divisor}
@@ -37,10 +36,8 @@ pub record OneIf (b : Bool) (r : ℕ) : Type 0 where
   pub small : r ≤ 1
 
 pub record HasRecord (x : Divisor) (r : List ℕ) : Type 0 where
-  pub kind : Kind
-  pub is_kind : x.kind ≡ code kind
   pub words : Words (numbers_of x)
-  pub bytes : bytes_of kind x ≡ r
+  pub bytes : bytes_of x.kind x ≡ r
 
 abbrev pub TypicalTest : Divisor → Bool → Type 0
 TypicalTest x b = (r : List ℕ) → HasRecord x r → b ≡ typical r

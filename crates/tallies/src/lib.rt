@@ -2,9 +2,11 @@
 #![tactic(auto)]
 
 ghost use Rattle.std.specs.Prelude.{[], ◌<◌, eqb};
+ghost use Rattle.kind.specs.Kinds.{code};
 ghost use Rattle.tallies.specs.Tallied.{TalliesOf, Bounded, OneIf, TypicalTest, AddedTo};
 
 use basis::Divisor;
+use kind::Kind;
 
 // How many records of a list have each of the five kinds, how many are typical, and how many there are.
 #[derive(Clone, Copy)]
@@ -37,7 +39,7 @@ pub fn no_records() -> Tallies
 fn typical(x: Divisor) -> bool
     ensures { TypicalTest x result }
 {
-    x.kind == 31 && x.n2 != 0
+    x.kind == Kind::K31 && x.n2 != 0
 }
 
 // 1 for true, 0 for false.
@@ -51,8 +53,8 @@ fn one_if(b: bool) -> u32
 }
 
 // 1 for a divisor of the kind, 0 for another.
-fn of_kind(x: Divisor, kind: u32) -> u32
-    ensures { OneIf (eqb x.kind kind) result }
+fn of_kind(x: Divisor, kind: Kind) -> u32
+    ensures { OneIf (eqb (code x.kind) (code kind)) result }
 {
     one_if(x.kind == kind)
 }
@@ -64,11 +66,11 @@ pub fn add(t: Tallies, x: Divisor) -> Tallies
     ensures { AddedTo t x result }
 {
     Tallies {
-        n0: t.n0 + of_kind(x, 0),
-        n11: t.n11 + of_kind(x, 11),
-        n21: t.n21 + of_kind(x, 21),
-        n22: t.n22 + of_kind(x, 22),
-        n31: t.n31 + of_kind(x, 31),
+        n0: t.n0 + of_kind(x, Kind::Zero),
+        n11: t.n11 + of_kind(x, Kind::K11),
+        n21: t.n21 + of_kind(x, Kind::K21),
+        n22: t.n22 + of_kind(x, Kind::K22),
+        n31: t.n31 + of_kind(x, Kind::K31),
         typical: t.typical + one_if(typical(x)),
         total: t.total + 1,
     }

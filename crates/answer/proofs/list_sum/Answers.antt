@@ -5,7 +5,7 @@ use Rattle.calls.specs.Call.{list_of}
 use Rattle.lists.specs.Totals.{SumOfList}
 use Rattle.reader.proofs.Ground.{curve-passes, curve-asked, curve_on, curve-cause}
 use Rattle.answer.proofs.Curve.{writes_curve}
-use Rattle.answer.proofs.Write.{writable, writes_found}
+use Rattle.answer.proofs.Write.{writes_found}
 use Rattle.reply.proofs.Number.{kept}
 use Rattle.answer.proofs.list_sum.Goals as goal
 
@@ -19,13 +19,6 @@ list_sum_on-found-requires c =
     let k = c.args.curve.now in
     let read = c.read_curve-read in
     (k, curve_on k read.result read.ensures _ c.in-Curve.is _ c.of-g.ensures)
-
-pub written-requires : goal.written-requires
-written-requires c =
-    let k = c.args.curve.now in
-    let read = c.read_curve-read in
-    let o = curve_on k read.result read.ensures _ c.in-Curve.is _ c.of-g.ensures in
-    writable k (list_of k c.args.list.now) (SumOfList k c.args.list.now) c.list_sum_on-found.result (c.list_sum_on-found.ensures k o)
 
 pub returns-in-Curve : goal.returns-in-Curve
 returns-in-Curve c =

@@ -8,7 +8,7 @@ use Rattle.calls.specs.Class.{IsMultiple}
 use Rattle.classes.specs.Found.{Found}
 use Rattle.reader.proofs.Ground.{curve-passes, curve-asked, curve_on, curve-cause}
 use Rattle.answer.proofs.Curve.{writes_curve}
-use Rattle.answer.proofs.Write.{writable, writes_found}
+use Rattle.answer.proofs.Write.{writes_found}
 use Rattle.reply.proofs.Number.{kept}
 use Rattle.answer.proofs.multiple.Goals as goal
 
@@ -22,15 +22,6 @@ multiple_on-found-requires c =
     let k = c.args.curve.now in
     let read = c.read_curve-read in
     (k, curve_on k read.result read.ensures _ c.in-Curve.is _ c.of-g.ensures)
-
-pub written-requires : goal.written-requires
-written-requires c =
-    let k = c.args.curve.now in
-    let a = c.args.a.now in
-    let read = c.read_curve-read in
-    let o = curve_on k read.result read.ensures _ c.in-Curve.is _ c.of-g.ensures in
-    writable k (divisor_of k a) (IsMultiple k a c.args.n) c.multiple_on-found.result
-    (subst (λ (n : ℤ). Found k (divisor_of k a) (IsMultiple k a n) c.multiple_on-found.result) (to_z-of_z c.ranges.n) (c.multiple_on-found.ensures k o))
 
 pub returns-in-Curve : goal.returns-in-Curve
 returns-in-Curve c =

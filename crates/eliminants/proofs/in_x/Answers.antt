@@ -13,8 +13,8 @@ pub returns-in-K11 : goal.returns-in-K11
 returns-in-K11 c =
     let line = line_of (prime-large _ c.requires.prime) _ (c.requires.shaped.below 0) in
     elim c.in-K11.is [
-      inl e ↦ chosen-x k11 line e;
-      inr e ↦ chosen-x k22 line e;
+      | inl e ↦ chosen-x k11 line e
+      | inr e ↦ chosen-x k22 line e
     ]
 
 pub returns-in-K21 : goal.returns-in-K21

@@ -13,8 +13,8 @@ returns-in-K11 c =
     let asked = c.requires.asked in
     chosen-y k11 (line_of (prime-large _ asked.prime) _ (asked.shaped.below 1)) c.in-K11.is
 
-pub mul_add-c0-requires : goal.mul_add-c0-requires
-mul_add-c0-requires c =
+pub mul_add-requires : goal.mul_add-requires
+mul_add-requires c =
     let asked = c.requires in
     let below = asked.asked.shaped.below in
     record { below_1 = below 1; below_2 = asked.below; below_3 = below 0 }
@@ -22,7 +22,7 @@ mul_add-c0-requires c =
 pub returns-in-K21 : goal.returns-in-K21
 returns-in-K21 c =
     let asked = c.requires.asked in
-    chosen-y k21 (in_y_21_of (prime-large _ asked.prime) _ _ _ c.mul_add-c0.ensures) c.in-K21.is
+    chosen-y k21 (in_y_21_of (prime-large _ asked.prime) _ _ _ c.mul_add.ensures) c.in-K21.is
 
 pub returns-in-K22 : goal.returns-in-K22
 returns-in-K22 c =

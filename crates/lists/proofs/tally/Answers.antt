@@ -1,13 +1,13 @@
 -- The records before the place `at` are read, and `count` of them have the kind. The measure is what is left of the list.
 use mathlib.Core.Logic.{inl}
-use mathlib.Core.Path.{refl, sym, subst}
+use mathlib.Core.Path.{refl, sym, ◌∙◌, subst}
 use Prim.Native.Nat.{ℕ, ◌+◌, ◌-◌}
 use native.Mathlib.Omega.{arith}
 use Rattle.reader.proofs.Ground.{grounded_on}
 use Rattle.lists.proofs.Walk.{Walked, walked_start, walked_more, walked_refused, walked_end, next_bounds, part-from}
 use Rattle.lists.proofs.Lists.{Tallied, tallied_yes, tallied_no}
 use Rattle.lists.proofs.tally.Goals as goal
-use Rattle.lists.proofs.tally.Goals.{then-x-kind, else-x-kind}
+use Rattle.lists.proofs.tally.Goals.{then-code-kind, else-code-kind}
 
 pub loop-at-init : goal.loop-at-init
 loop-at-init c = (omega arith, omega arith, walked_start _ _ _ (λ k o. refl))
@@ -46,17 +46,17 @@ loop-at-preserved c =
     let is = c.in-Next.is in
     let b = next_bounds _ s X loop.at loop.invariant.2 _ cut read.result read.ensures _ _ is c.requires.curved loop.invariant.0 in (
       b.1,
-      elim c.if-x-kind.branch [
-        | then-x-kind w ↦ omega (arith, w.count-is, b.0, loop.invariant.1)
-        | else-x-kind w ↦ omega (arith, w.count-is, loop.invariant.1)
+      elim c.if-code-kind.branch [
+        | then-code-kind w ↦ omega (arith, w.count-is, b.0, loop.invariant.1)
+        | else-code-kind w ↦ omega (arith, w.count-is, loop.invariant.1)
       ],
-      elim c.if-x-kind.branch [
-        | then-x-kind w ↦
+      elim c.if-code-kind.branch [
+        | then-code-kind w ↦
             subst (λ (m : ℕ). Walked c.args.g s (loop.at + n) (Tallied kind m)) (sym w.count-is)
-            (walked_more _ s X loop.at loop.invariant.2 _ cut read.result read.ensures _ _ is (Tallied kind (loop.count + 1)) (tallied_yes kind loop.count w.if-x-kind.true))
-        | else-x-kind w ↦
+            (walked_more _ s X loop.at loop.invariant.2 _ cut read.result read.ensures _ _ is (Tallied kind (loop.count + 1)) (tallied_yes kind loop.count (omega (arith, c.code.ensures, w.if-code-kind.true))))
+        | else-code-kind w ↦
             subst (λ (m : ℕ). Walked c.args.g s (loop.at + n) (Tallied kind m)) (sym w.count-is)
-            (walked_more _ s X loop.at loop.invariant.2 _ cut read.result read.ensures _ _ is (Tallied kind loop.count) (tallied_no kind loop.count w.if-x-kind.false))
+            (walked_more _ s X loop.at loop.invariant.2 _ cut read.result read.ensures _ _ is (Tallied kind loop.count) (tallied_no kind loop.count (λ e. w.if-code-kind.false (c.code.ensures ∙ e))))
       ],
     )
 

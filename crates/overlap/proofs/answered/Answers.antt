@@ -6,7 +6,7 @@ use Rattle.calls.specs.Call.{divisor_of}
 use Rattle.reader.proofs.Ground.{curve-passes, curve-asked, curve_on, curve-cause}
 use Rattle.reply.proofs.Number.{kept}
 use Rattle.answer.proofs.Curve.{writes_curve}
-use Rattle.answer.proofs.Write.{writable, writes_found}
+use Rattle.answer.proofs.Write.{writes_found}
 use Rattle.overlap.specs.Asked.{Good}
 use Rattle.overlap.proofs.answered.Goals as goal
 
@@ -20,15 +20,6 @@ found-r-requires c =
     let k = c.args.curve.now in
     let read = c.read_curve-read in
     (k, curve_on k read.result read.ensures _ c.in-Curve.is _ c.of-g.ensures)
-
-pub written-requires : goal.written-requires
-written-requires c =
-    let k = c.args.curve.now in
-    let a = c.args.a.now in
-    let b = c.args.b.now in
-    let read = c.read_curve-read in
-    let o = curve_on k read.result read.ensures _ c.in-Curve.is _ c.of-g.ensures in
-    writable k (divisor_of k a ++ divisor_of k b) (Good c.args.w k a b) c.found-r.result (c.found-r.ensures k o)
 
 pub returns-in-Curve : goal.returns-in-Curve
 returns-in-Curve c =

@@ -7,7 +7,7 @@ use Rattle.point.specs.Point.{point_record}
 use Rattle.point.specs.PointCall.{pairs, numbers_stage, pairs_stages}
 use Rattle.reader.proofs.Ground.{curve-passes, curve-asked, curve_on, curve-cause}
 use Rattle.answer.proofs.Curve.{writes_curve}
-use Rattle.answer.proofs.Write.{writable, writes_found}
+use Rattle.answer.proofs.Write.{writes_found}
 use Rattle.reply.proofs.Number.{kept}
 use Rattle.points.proofs.points_sum.Goals as goal
 
@@ -21,14 +21,6 @@ sum_on-found-requires c =
     let k = c.args.curve.now in
     let read = c.read_curve-read in
     (k, curve_on k read.result read.ensures _ c.in-Curve.is _ c.of-g.ensures)
-
-pub written-requires : goal.written-requires
-written-requires c =
-    let k = c.args.curve.now in
-    let ns = c.args.points.now in
-    let read = c.read_curve-read in
-    let o = curve_on k read.result read.ensures _ c.in-Curve.is _ c.of-g.ensures in
-    writable k (numbers_stage ns ∷ pairs_stages k (pairs ns)) (IsListSum k (map (point_record k) (pairs ns))) c.sum_on-found.result (c.sum_on-found.ensures k o)
 
 pub returns-in-Curve : goal.returns-in-Curve
 returns-in-Curve c =

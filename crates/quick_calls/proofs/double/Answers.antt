@@ -5,7 +5,7 @@ use Rattle.calls.specs.Call.{divisor_of}
 use Rattle.calls.specs.Class.{IsSum}
 use Rattle.reader.proofs.Ground.{curve-passes, curve-asked, curve_on, curve-cause}
 use Rattle.answer.proofs.Curve.{writes_curve}
-use Rattle.answer.proofs.Write.{writable, writes_found}
+use Rattle.answer.proofs.Write.{writes_found}
 use Rattle.reply.proofs.Number.{kept}
 use Rattle.quick_calls.proofs.double.Goals as goal
 
@@ -19,13 +19,6 @@ double_on-found-requires c =
     let k = c.args.curve.now in
     let read = c.read_curve-read in
     (k, curve_on k read.result read.ensures _ c.in-Curve.is _ c.of-g.ensures)
-
-pub written-requires : goal.written-requires
-written-requires c =
-    let k = c.args.curve.now in
-    let read = c.read_curve-read in
-    let o = curve_on k read.result read.ensures _ c.in-Curve.is _ c.of-g.ensures in
-    writable k (divisor_of k c.args.a.now) (IsSum k c.args.a.now c.args.a.now) c.double_on-found.result (c.double_on-found.ensures k o)
 
 pub returns-in-Curve : goal.returns-in-Curve
 returns-in-Curve c =

@@ -2,7 +2,7 @@
 use mathlib.Core.Path.{refl, ◌∙◌}
 use native.Mathlib.Omega.{arith}
 use Rattle.reader.specs.declared.DivisorAnswer.TheVariants as answer
-use Rattle.reply.proofs.Write.{write_asked, write_fits, wrote, wrote_answer, known}
+use Rattle.reply.proofs.Write.{write_asked, write_fits, wrote, wrote_answer}
 use Rattle.reply.proofs.Number.{kept}
 use Rattle.reply.proofs.written.Goals as goal
 
@@ -13,15 +13,11 @@ returns-then-out-lt-ROOM c =
 
 pub write_divisor-n-requires : goal.write_divisor-n-requires
 write_divisor-n-requires c =
-    write_asked (known c.args.found c.requires c.in-Divisor.is)
-    c.if-out-lt-ROOM.false
+    write_asked c.if-out-lt-ROOM.false
 
 pub overflow_cast-result : goal.overflow_cast-result
 overflow_cast-result c =
-    write_fits
-    (known c.args.found c.requires
-    c.in-Divisor.is)
-    c.write_divisor-n.ensures
+    write_fits c.write_divisor-n.ensures
 
 pub returns-else-out-lt-ROOM : goal.returns-else-out-lt-ROOM
 returns-else-out-lt-ROOM c =

@@ -4,7 +4,7 @@ use Rattle.record.specs.Curve.{curve_stages}
 use Rattle.reader.proofs.Ground.{curve-passes, curve-asked, curve_on, curve-cause, grounded_on, at-curve}
 use Rattle.reply.proofs.Number.{kept}
 use Rattle.answer.proofs.Curve.{writes_curve}
-use Rattle.answer.proofs.Write.{writable, writes_found}
+use Rattle.answer.proofs.Write.{writes_found}
 use Rattle.short.specs.ShortCall.{short_of, IsLong}
 use Rattle.short_reader.specs.Reading.{ShortRead}
 use Rattle.short_calls.proofs.Found.{found-short}
@@ -20,15 +20,6 @@ read_short-found-requires c =
     let k = c.args.curve.now in
     let read = c.read_curve-read in
     grounded_on (curve_on k read.result read.ensures _ c.in-Curve.is _ c.of-g.ensures)
-
-pub written-requires : goal.written-requires
-written-requires c =
-    let k = c.args.curve.now in
-    let s = c.args.short.now in
-    let read = c.read_curve-read in
-    let o = curve_on k read.result read.ensures _ c.in-Curve.is _ c.of-g.ensures in
-    let found = c.read_short-found in
-    writable k (short_of k s) (IsLong k s) found.result (found-short k s found.result (at-curve o (λ p C. ShortRead p C s found.result) found.ensures))
 
 pub returns-in-Curve : goal.returns-in-Curve
 returns-in-Curve c =

@@ -13,13 +13,11 @@ returns-then-out-lt-ROOM c =
 
 pub write_short-n-requires : goal.write_short-n-requires
 write_short-n-requires c =
-    let k = shaped_of _ c.args.found c.requires c.in-Divisor.is in
-    record { kind = k.0; shaped = k.1; enough = c.if-out-lt-ROOM.false }
+    record { shaped = shaped_of _ c.args.found c.requires c.in-Divisor.is; enough = c.if-out-lt-ROOM.false }
 
 pub overflow_cast-result : goal.overflow_cast-result
 overflow_cast-result c =
     write_fits _ (omega arith) _ _ _ _ c.write_short-n.ensures
-    (shaped_of _ c.args.found c.requires c.in-Divisor.is)
 
 pub returns-else-out-lt-ROOM : goal.returns-else-out-lt-ROOM
 returns-else-out-lt-ROOM c =

@@ -9,38 +9,36 @@ pub overflow_sub-p : goal.overflow_sub-p
 overflow_sub-p c = omega (arith, c.requires.shaped.below 0)
 
 pub overflow_mul-size : goal.overflow_mul-size
-overflow_mul-size c = omega (arith, mul-le-mul c.bit_length-w.ensures.small c.count_of-count.ensures.small)
+overflow_mul-size c = omega (arith, mul-le-mul c.bit_length-w.ensures.small c.count-count.ensures.small)
 
 pub overflow_add-size : goal.overflow_add-size
-overflow_add-size c = omega (arith, mul-le-mul c.bit_length-w.ensures.small c.count_of-count.ensures.small)
+overflow_add-size c = omega (arith, mul-le-mul c.bit_length-w.ensures.small c.count-count.ensures.small)
 
 pub overflow_add-size-2 : goal.overflow_add-size-2
-overflow_add-size-2 c = omega (arith, mul-le-mul c.bit_length-w.ensures.small c.count_of-count.ensures.small)
+overflow_add-size-2 c = omega (arith, mul-le-mul c.bit_length-w.ensures.small c.count-count.ensures.small)
 
 pub overflow_add-code : goal.overflow_add-code
-overflow_add-code c =
-    let asked = c.requires in
-    omega (arith, asked.shaped.kind, short_code-small asked.kind)
+overflow_add-code c = omega (arith, c.code-code.ensures, short_code-small c.args.x.kind)
 
 pub overflow_cast-size-2 : goal.overflow_cast-size-2
-overflow_cast-size-2 c = omega (arith, mul-le-mul c.bit_length-w.ensures.small c.count_of-count.ensures.small)
+overflow_cast-size-2 c = omega (arith, mul-le-mul c.bit_length-w.ensures.small c.count-count.ensures.small)
 
 pub write_u16-requires : goal.write_u16-requires
-write_u16-requires c = record { at_in_bounds = omega (arith, c.requires.enough); v_bound = omega (arith, mul-le-mul c.bit_length-w.ensures.small c.count_of-count.ensures.small) }
+write_u16-requires c = record { at_in_bounds = omega (arith, c.requires.enough); v_bound = omega (arith, mul-le-mul c.bit_length-w.ensures.small c.count-count.ensures.small) }
 
 pub write_u16-requires-2 : goal.write_u16-requires-2
 write_u16-requires-2 c =
-    let asked = c.requires in record { at_in_bounds = omega (arith, c.write_u16.auto.s, asked.enough); v_bound = omega (arith, asked.shaped.kind, short_code-small asked.kind) }
+    record { at_in_bounds = omega (arith, c.write_u16.auto.s, c.requires.enough); v_bound = omega (arith, c.code-code.ensures, short_code-small c.args.x.kind) }
 
 pub pack-requires : goal.pack-requires
 pack-requires c =
     let asked = c.requires in
-    pack_asked _ asked.kind _ asked.shaped (omega arith) _ _ c.bit_length-w.ensures.is
-    (c.count_of-count.ensures.is asked.kind asked.shaped.kind) _ (omega (arith, c.write_u16.auto.s, c.write_u16-2.auto.s, asked.enough))
+    pack_asked _ _ _ asked.shaped (omega arith) _ _ c.bit_length-w.ensures.is
+    c.count-count.ensures.is _ (omega (arith, c.write_u16.auto.s, c.write_u16-2.auto.s, asked.enough))
 
 pub returns : goal.returns
-returns c κ e =
+returns c =
     let asked = c.requires in
-    short-put _ κ _ (record { kind = e; below = asked.shaped.below }) (omega arith) _ _ c.bit_length-w.ensures.is
-    (c.count_of-count.ensures.is κ e) _ _ _ _ _ _ asked.enough (omega arith) (omega (arith, e))
+    short-put _ _ _ asked.shaped (omega arith) _ _ c.bit_length-w.ensures.is
+    c.count-count.ensures.is _ _ _ _ _ _ asked.enough (omega arith) (omega (arith, c.code-code.ensures))
     c.write_u16.ensures c.write_u16-2.ensures c.pack.ensures
