@@ -16,7 +16,7 @@ loop-a-init c = (c.root_from-a.ensures.most, reached-lines (reached-start c.args
 pub list_at-n-requires : goal.list_at-n-requires
 list_at-n-requires c =
     record {
-      stands = record { divided = c.requires.divided; triple = c.triple_of.ensures };
+      stands = record { divided = c.requires.divided; triple = c.triple_of-t.ensures };
       below = c.loop-a-test.true;
       first = c.args.out.now;
       room = c.requires.room;
