@@ -12,7 +12,7 @@ loop-x-init c = (c.root_from-x.ensures.below, reached-lines (reached-start c.arg
 pub list_at-n-requires : goal.list_at-n-requires
 list_at-n-requires c =
     record {
-      stands = record { divided = c.requires.divided; triple = c.triple_of.ensures };
+      stands = record { divided = c.requires.divided; triple = c.triple_of-t.ensures };
       below = subst (λ (o : Option ℕ). IfSome o (λ a. a < c.args.g.p)) c.in-Some.is c.loop-x.invariant.0;
       first = c.args.out.now;
       room = c.requires.room;

@@ -1,5 +1,5 @@
--- `listing::put` meets its contract. The loop's invariant is Putting of proofs/Slices, its measure k − i.
-use Prim.Native.Nat.{◌+◌, ◌*◌, ◌-◌}
+-- `listing::put` meets its contract. The loop's invariant is Putting of proofs/Slices.
+use Prim.Native.Nat.{◌+◌, ◌*◌}
 use native.Mathlib.Omega.{arith}
 use lib.ListN.{length-set}
 use Rattle.listing.proofs.Slices.{putting_start, putting_more, putting_end, putting_length}
@@ -24,12 +24,6 @@ pub bounds-out-at-in-loop-i : goal.bounds-out-at-in-loop-i
 bounds-out-at-in-loop-i c =
     omega
     (arith, c.loop-i.invariant.room, putting_length c.loop-i.invariant, length-set c.loop-i.out (2 * (c.args.n + c.loop-i.i)) c.args.a)
-
-pub overflow_add-i : goal.overflow_add-i
-overflow_add-i c = omega arith
-
-pub loop-i-smaller : goal.loop-i-smaller
-loop-i-smaller c = omega arith
 
 pub loop-i-preserved : goal.loop-i-preserved
 loop-i-preserved c = putting_more c.loop-i.invariant (omega arith)

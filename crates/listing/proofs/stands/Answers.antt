@@ -8,12 +8,12 @@ read_pair-read-requires c = let s = c.requires.divided in (s.0, s.2)
 pub multiplicity-requires : goal.multiplicity-requires
 multiplicity-requires c =
     let read = c.read_pair-read in
-    stands_asked _ _ _ read.result read.ensures _ c.in-Divisor.is c.triple_of.ensures c.requires
+    stands_asked _ _ _ read.result read.ensures _ c.in-Divisor.is c.triple_of-u.ensures c.requires
 
 pub returns-in-Divisor : goal.returns-in-Divisor
 returns-in-Divisor c =
     let read = c.read_pair-read in
-    stands-point _ _ _ read.result read.ensures _ c.in-Divisor.is c.triple_of.ensures c.requires.triple c.multiplicity.ensures
+    stands-point _ _ _ read.result read.ensures _ c.in-Divisor.is c.triple_of-u.ensures c.requires.triple c.multiplicity.ensures
 
 pub returns-in-Refused : goal.returns-in-Refused
 returns-in-Refused c =
