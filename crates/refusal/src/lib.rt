@@ -1,8 +1,11 @@
-// The causes for which a call refuses its input, from 1 to 15 in the order of their numbers.
+// The causes for which a call refuses its input: their numbers, and the words for them.
 #![tactic(auto)]
 
 ghost use Rattle.std.specs.Prelude.{◌≡◌};
 ghost use Rattle.refusal.specs.Refusal.{number_of};
+
+use std::error::Error;
+use std::fmt;
 
 // Why a call refuses its input.
 #[derive(Clone, Copy, Debug, PartialEq, Eq)]
@@ -47,3 +50,34 @@ impl Refusal {
         self as u8
     }
 }
+
+impl fmt::Display for Refusal {
+    ghost use Rattle.std.specs.Prelude.{Some};
+    ghost use Rattle.refusal.specs.Refusal.{words_of};
+
+    ghost output = { λ r. Some (words_of r) };
+
+    fn fmt<W: fmt::Write>(&self, f: &mut fmt::Formatter<W>) -> fmt::Result {
+        f.write_str(match self {
+            Refusal::CurveSize =>
+                "curve bytes under 4, length field unlike the bytes given, or kind 34 with length not 44",
+            Refusal::CurveKind => "curve kind not 34",
+            Refusal::Modulus => "p not a prime from 2 to 2147483647",
+            Refusal::Coefficient => "some c not below p",
+            Refusal::Singular => "curve singular",
+            Refusal::DivisorSize =>
+                "divisor bytes under 4, length field unlike the bytes given, or length not that of its kind",
+            Refusal::DivisorKind => "no kind of divisor",
+            Refusal::Number => "divisor number or coordinate not below p",
+            Refusal::NoBasis => "divisor not a basis, or pair off the curve",
+            Refusal::Room => "result buffer too short",
+            Refusal::ListSize => "list over 32,768 bytes",
+            Refusal::Fractions => "fractions of the wrong length or kind",
+            Refusal::Denominator => "a denominator divisible by p, zero included",
+            Refusal::Points => "p above 65521, an odd count of numbers, or more than 4,096 pairs",
+            Refusal::Filling => "a filling bit is not zero",
+        })
+    }
+}
+
+impl Error for Refusal {}
