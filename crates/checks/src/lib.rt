@@ -1,7 +1,8 @@
 // Curve and divisor records in bytes: their numbers by value, and whether these are below p. specs/ says what is checked.
 #![tactic(auto)]
 
-ghost use Rattle.std.specs.Prelude.{◌≡◌, [], ◌∷◌, ℕ, ◌<◌, ◌≤◌, length};
+ghost use Rattle.std.specs.Prelude.{◌≡◌, ℕ, ◌<◌, ◌≤◌, length, nat_lt};
+ghost use Rattle.std.specs.List.{list_all};
 ghost use Rattle.algebra.specs.Answers.{Answers};
 ghost use Rattle.basis.specs.Divisor.{numbers_of};
 ghost use Rattle.checks.specs.Contract.{AllBelow, Word, ValueOf, coefficient_of, equation_value};
@@ -10,20 +11,11 @@ use basis::Divisor;
 use equation::Equation;
 use kind::Kind;
 
-// Are the three numbers below p?
-fn three_below(p: u32, a: u32, b: u32, c: u32) -> bool
-    ensures { Answers (AllBelow p (a ∷ b ∷ c ∷ [])) result }
+// Are all numbers of a list below p?
+fn below(p: u32, ns: &[u32]) -> bool
+    ensures { result ≡ list_all (λ n. nat_lt n p) ns.now }
 {
-    if p <= a {
-        return false;
-    }
-    if p <= b {
-        return false;
-    }
-    if p <= c {
-        return false;
-    }
-    true
+    ns.iter().all(|n| *n < p)
 }
 
 // The equation of a curve's bytes.
@@ -50,13 +42,7 @@ pub fn equation(s: &[u8]) -> Equation
 pub fn coefficients_below(e: Equation) -> bool
     ensures { Answers ((i : ℕ) → i < 9 → coefficient_of e i < e.p) result }
 {
-    if !three_below(e.p, e.c0, e.c1, e.c2) {
-        return false;
-    }
-    if !three_below(e.p, e.c3, e.c4, e.c5) {
-        return false;
-    }
-    three_below(e.p, e.c6, e.c7, e.c8)
+    below(e.p, &[e.c0, e.c1, e.c2, e.c3, e.c4, e.c5, e.c6, e.c7, e.c8])
 }
 
 // The four-byte number at place `at`, 0 if it is not whole.
@@ -65,9 +51,10 @@ fn word(s: &[u8], at: usize) -> u32
     ensures { Word s.now at result }
 {
     if at + 4 <= s.len() {
-        return layout::read_u32(s, at);
+        layout::read_u32(s, at)
+    } else {
+        0
     }
-    0
 }
 
 // The divisor of a kind with the numbers of a divisor record.
@@ -92,11 +79,5 @@ pub fn value(kind: Kind, s: &[u8]) -> Divisor
 pub fn all_below(p: u32, r: Divisor) -> bool
     ensures { Answers (AllBelow p (numbers_of r)) result }
 {
-    if !three_below(p, r.n0, r.n1, r.n2) {
-        return false;
-    }
-    if !three_below(p, r.n3, r.n4, r.n5) {
-        return false;
-    }
-    three_below(p, r.n6, r.n7, r.n8)
+    below(p, &[r.n0, r.n1, r.n2, r.n3, r.n4, r.n5, r.n6, r.n7, r.n8])
 }

@@ -4,56 +4,48 @@
 ghost use Rattle.algebra.specs.Answers.{Answers};
 ghost use Rattle.record.specs.Cause.{Sized};
 ghost use Rattle.record.specs.Curve.{curve_form};
-ghost use Rattle.record.specs.Divisor.{divisor_form};
-ghost use Rattle.form.specs.Contract.{Checked};
+ghost use Rattle.form.specs.Contract.{Checked, FormRead};
 
 use kind::Kind;
+use refusal::Refusal;
 
 // Is the length field that of the bytes given? It serves every record, whatever its kind.
 pub fn sized(s: &[u8]) -> bool
     ensures { Answers (Sized s.now) result }
 {
-    if s.len() < 4 {
-        return false;
-    }
-    let own = layout::read_u16(s, 0) as usize;
-    if own == s.len() {
-        return true;
-    }
-    false
+    s.len() >= 4 && layout::read_u16(s, 0) as usize == s.len()
 }
 
-// The refusal of a curve for its size, its kind or its kind's length; 0 for none.
-pub fn curve_form(s: &[u8]) -> u8
+// Has a curve its size, its kind and its kind's length?
+pub fn curve_form(s: &[u8]) -> Result<(), Refusal>
     ensures { Checked (curve_form s.now) result }
 {
     if !sized(s) {
-        return 1;
+        return Err(Refusal::CurveSize);
     }
-    let kind = layout::read_u16(s, 2);
-    if kind != 34 {
-        return 2;
+    if layout::read_u16(s, 2) != 34 {
+        return Err(Refusal::CurveKind);
     }
     if s.len() != 44 {
-        return 1;
+        return Err(Refusal::CurveSize);
     }
-    0
+    Ok(())
 }
 
-// The refusal of a divisor for its size, its kind or its kind's length; 0 for none.
-pub fn divisor_form(s: &[u8]) -> u8
-    ensures { Checked (divisor_form s.now) result }
+// The kind of a divisor that has its size, a kind and its kind's length.
+pub fn divisor_form(s: &[u8]) -> Result<Kind, Refusal>
+    ensures { FormRead s.now result }
 {
     if !sized(s) {
-        return 6;
+        return Err(Refusal::DivisorSize);
     }
     let code = layout::read_u16(s, 2);
     let Ok(kind) = Kind::try_from(code) else {
-        return 7;
+        return Err(Refusal::DivisorKind);
     };
     let size = 4 + 4 * kind.count();
     if s.len() != size {
-        return 6;
+        return Err(Refusal::DivisorSize);
     }
-    0
+    Ok(kind)
 }

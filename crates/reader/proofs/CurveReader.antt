@@ -9,6 +9,8 @@ use mathlib.Core.Logic.{inl, inr}
 use mathlib.Core.List.{List}
 use Prim.Native.Nat.{ℕ, ◌<◌}
 use native.Mathlib.Omega.{arith}
+use Rattle.std.specs.Prelude.{Result, Ok, Err}
+use Rattle.refusal.specs.declared.Refusal.{Refusal}
 use Rattle.prime.specs.Prime.{Prime}
 use Rattle.field.specs.Residue.{Z, el}
 use Rattle.field.proofs.Element.{el-one}
@@ -16,7 +18,7 @@ use Rattle.field.proofs.Invert.{one_not_zero}
 use Rattle.curve.specs.Curve.{Curve}
 use Rattle.equation.specs.Equation.{curve_of, Coefficients}
 use Rattle.equation.specs.declared.Equation.{Equation}
-use Rattle.record.specs.Cause.{Stage, FirstCause}
+use Rattle.record.specs.Cause.{Stage}
 use Rattle.record.specs.Curve.{modulus, coefficient_number, equation, curve_rest}
 use Rattle.form.specs.Contract.{Checked}
 use Rattle.checks.specs.Contract.{coefficient_of, equation_value}
@@ -58,24 +60,18 @@ module _ (e : Equation) (unit : e.a0 ≡ 1) (prime : Prime e.p) where
       }
 
 -- the rest of a curve's stages for coefficients that are the same
-rest-same : (p : ℕ) (C : Curve (Z p)) (c c' : ℕ → ℕ) → ((i : ℕ) → i < 9 → c i ≡ c' i) → (n : ℕ)
-    → Checked (curve_rest p C c) n → Checked (curve_rest p C c') n
-rest-same p C c c' e n h =
-    record {
-      passes = λ z. let q = h.passes z in (q.0, (there q.1.0, q.1.1));
-      cause = λ z. go (h.cause z);
-    }
-  where
-    there : ((i : ℕ) → i < 9 → c i < p) → (i : ℕ) → i < 9 → c' i < p
-    there f i l = subst (λ (m : ℕ). m < p) (e i l) (f i l)
+module _ (p : ℕ) (C : Curve (Z p)) (c c' : ℕ → ℕ) (e : (i : ℕ) → i < 9 → c i ≡ c' i) where
+  there : ((i : ℕ) → i < 9 → c i < p) → (i : ℕ) → i < 9 → c' i < p
+  there f i l = subst (λ (m : ℕ). m < p) (e i l) (f i l)
 
-    back : ((i : ℕ) → i < 9 → c' i < p) → (i : ℕ) → i < 9 → c i < p
-    back f i l = subst (λ (m : ℕ). m < p) (sym (e i l)) (f i l)
+  back : ((i : ℕ) → i < 9 → c' i < p) → (i : ℕ) → i < 9 → c i < p
+  back f i l = subst (λ (m : ℕ). m < p) (sym (e i l)) (f i l)
 
-    go : FirstCause (curve_rest p C c) n → FirstCause (curve_rest p C c') n
-    go (inl f) = inl f
-    go (inr (a, inl f)) = inr (a, inl (λ x. f.0 (back x), f.1))
-    go (inr (a, inr (b, f))) = inr (a, inr (there b, f))
+  rest-same : (r : Result Unit Refusal) → Checked (curve_rest p C c) r → Checked (curve_rest p C c') r
+  rest-same (Ok u) q = (q.0, (there q.1.0, q.1.1))
+  rest-same (Err k) (inl f) = inl f
+  rest-same (Err k) (inr (a, inl f)) = inr (a, inl (λ x. f.0 (back x), f.1))
+  rest-same (Err k) (inr (a, inr (b, f))) = inr (a, inr (there b, f))
 
 pub coefficient-at : (s : List ℕ) (i : ℕ) → i < 9 → coefficient_of (equation_value s) i ≡ coefficient_number s i
 coefficient-at s = nine (λ i. coefficient_of (equation_value s) i ≡ coefficient_number s i) refl refl refl refl refl refl refl refl refl
@@ -84,8 +80,8 @@ coefficient-at s = nine (λ i. coefficient_of (equation_value s) i ≡ coefficie
 abbrev pub rest_of : List ℕ → List Stage
 rest_of s = curve_rest (modulus s) (equation s) (coefficient_number s)
 
-pub equation_checked : (s : List ℕ) (e : Equation) (n : ℕ) → e ≡ equation_value s → Checked (equation_stages e) n → Checked (rest_of s) n
-equation_checked s e n q h =
-    rest-same (modulus s) (equation s) _ (coefficient_number s) (coefficient-at s) n
-    (subst (λ (C : Curve (Z (modulus s))). Checked (curve_rest (modulus s) C (coefficient_of (equation_value s))) n) (curve-value s)
-    (subst (λ (x : Equation). Checked (equation_stages x) n) q h))
+pub equation_checked : (s : List ℕ) (e : Equation) (r : Result Unit Refusal) → e ≡ equation_value s → Checked (equation_stages e) r → Checked (rest_of s) r
+equation_checked s e r q h =
+    rest-same (modulus s) (equation s) _ (coefficient_number s) (coefficient-at s) r
+    (subst (λ (C : Curve (Z (modulus s))). Checked (curve_rest (modulus s) C (coefficient_of (equation_value s))) r) (curve-value s)
+    (subst (λ (x : Equation). Checked (equation_stages x) r) q h))

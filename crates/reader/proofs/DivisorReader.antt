@@ -2,14 +2,14 @@
 --   value-shaped, value-holds      r has the kind and the numbers of s
 --   refused_8, refused_9, given    a number that is not below p; no basis; an accepted divisor
 --   basis_asked, found-no_basis, found-basis    the same by the test of basis
---   first-refused, second-refused, both_given     two divisors, one after the other
---   next-short, next_field, next-is-given, next-is-refused    the record at the start of a list's bytes
+--   next-short, next_field, next-refused, next-given     the record at the start of a list's bytes
 use mathlib.Core.Path.{◌≡◌, refl, ap, ◌∙◌, subst}
 use mathlib.Core.Bool.{Bool, true, false}
 use mathlib.Core.Logic.{inl, inr}
 use mathlib.Core.List.{List}
 use Prim.Native.Nat.{ℕ, ◌+◌, ◌*◌, ◌<◌, ◌≤◌}
 use native.Mathlib.Omega.{arith}
+use Rattle.std.specs.Prelude.{Ok}
 use native.Mathlib.Decide.{dec_lt}
 use lib.ListN.{length, get_or, take, get_or-eq_default}
 use Rattle.prime.specs.Prime.{Prime}
@@ -26,14 +26,9 @@ use Rattle.record.specs.Cause.{FirstCause, Passes}
 use Rattle.checks.specs.Contract.{AllBelow, ValueOf}
 use Rattle.record.specs.Divisor.{OfKind, number_at, divisor_form, divisor_stages}
 use Rattle.record.specs.Listed.{next_stages}
-use Rattle.reader.specs.Reading.{DivisorGiven, DivisorRead, TwoRead, NextRead}
-use Rattle.reader.specs.declared.DivisorAnswer.{DivisorAnswer}
-use Rattle.reader.specs.declared.DivisorAnswer.TheVariants as answer
-use Rattle.reader.specs.declared.TwoAnswer.TheVariants as two
-use Rattle.reader.specs.declared.NextAnswer.TheVariants as next
+use Rattle.reader.specs.Reading.{DivisorGiven, NextRead}
 use Rattle.record.proofs.Accepted.{Reads, reads_accepted, same_kind}
 use Rattle.checks.proofs.Answer.{below_at, at-below}
-use Rattle.record.proofs.Cause.{first_append}
 use Rattle.divisor.proofs.Codes.{count_small, basis-same}
 use Rattle.record.proofs.Written.{Holds, read_back, read_based}
 
@@ -123,24 +118,6 @@ module _ {g : Ground} (s : List ℕ) (r : Divisor) {κ : Kind} (is_kind : OfKind
   pub found-basis : {b : Bool} → BasisTest g.p g.cube r b → b ≡ true → Bytes s → DivisorGiven g.p C s r
   found-basis t y h = given g.p G.ready.setting.prime s r is_kind v form C below h ((t G.ready κ shaped).holds y)
 
--- two divisors, one after the other
-module _ (p : ℕ) (C : Curve (Z p)) (s t : List ℕ) where
-  pub first-refused : (d : DivisorAnswer) (n : ℕ) → DivisorRead p C s d → d ≡ answer.Refused n → TwoRead p C s t (two.Refused n)
-  first-refused d n h e =
-      (first_append (divisor_stages p C s) (divisor_stages p C t) n).1 (inl (subst (λ (b : DivisorAnswer). DivisorRead p C s b) e h))
-
-  module _ (d : DivisorAnswer) (x : Divisor) (h : DivisorRead p C s d) (e : d ≡ answer.Divisor x) (d' : DivisorAnswer) (h' : DivisorRead p C t d') where
-    first : DivisorGiven p C s x
-    first = subst (λ (b : DivisorAnswer). DivisorRead p C s b) e h
-
-    pub second-refused : (n : ℕ) → d' ≡ answer.Refused n → TwoRead p C s t (two.Refused n)
-    second-refused n e' =
-        (first_append (divisor_stages p C s) (divisor_stages p C t) n).1
-        (inr (first.accepted, subst (λ (b : DivisorAnswer). DivisorRead p C t b) e' h'))
-
-    pub both_given : (y : Divisor) → d' ≡ answer.Divisor y → TwoRead p C s t (two.Two x y)
-    both_given y e' = (first, subst (λ (b : DivisorAnswer). DivisorRead p C t b) e' h')
-
 module _ (p : ℕ) (C : Curve (Z p)) (s : List ℕ) where
   pub next-short : length s < 4 → FirstCause (next_stages p C s) 6
   next-short h = inl (λ g. omega arith, refl)
@@ -153,14 +130,8 @@ module _ (p : ℕ) (C : Curve (Z p)) (s : List ℕ) where
       field : (4 ≤ number2 s 0) × (number2 s 0 ≤ length s)
       field = (omega arith, omega arith)
 
-      next-refused : (k : ℕ) → FirstCause (divisor_stages p C (take n s)) k → FirstCause (next_stages p C s) k
+      pub next-refused : (k : ℕ) → FirstCause (divisor_stages p C (take n s)) k → FirstCause (next_stages p C s) k
       next-refused k f = inr (long, inr (field, subst (λ (m : ℕ). FirstCause (divisor_stages p C (take m s)) k) own f))
 
-      next-given : (r : Divisor) → DivisorGiven p C (take n s) r → Passes (next_stages p C s) × (n ≡ number2 s 0) × DivisorGiven p C (take n s) r
+      pub next-given : (r : Divisor) → DivisorGiven p C (take n s) r → NextRead p C s (Ok (r, n))
       next-given r g = ((long, (field, subst (λ (m : ℕ). Passes (divisor_stages p C (take m s))) own g.accepted)), own, g)
-
-      pub next-is-given : (a : DivisorAnswer) (r : Divisor) → DivisorRead p C (take n s) a → a ≡ answer.Divisor r → NextRead p C s (next.Next r n)
-      next-is-given a r d e = next-given r (subst (λ (b : DivisorAnswer). DivisorRead p C (take n s) b) e d)
-
-      pub next-is-refused : (a : DivisorAnswer) (k : ℕ) → DivisorRead p C (take n s) a → a ≡ answer.Refused k → NextRead p C s (next.Refused k)
-      next-is-refused a k d e = next-refused k (subst (λ (b : DivisorAnswer). DivisorRead p C (take n s) b) e d)

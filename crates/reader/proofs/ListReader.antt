@@ -9,12 +9,12 @@ use mathlib.Core.Path.{◌≡◌, refl, sym, ap, ap₂, ◌∙◌}
 use mathlib.Core.List.{List, [], ◌∷◌, ◌++◌, append-nil}
 use Prim.Native.Nat.{ℕ, ◌+◌, ◌-◌, ◌<◌, ◌≤◌}
 use native.Mathlib.Omega.{arith}
+use Rattle.std.specs.Prelude.{Ok}
 use lib.ListN.{length, take, drop, length-drop, take-append-drop}
 use lib.Seq.{take-add, take_all}
 use Rattle.field.specs.Residue.{Z}
 use Rattle.curve.specs.Curve.{Curve}
 use Rattle.basis.specs.declared.Divisor.{Divisor}
-use Rattle.reader.specs.declared.NextAnswer.TheVariants as next
 use Rattle.record.specs.Cause.{FirstCause}
 use Rattle.record.specs.Listed.{joined, next_stages, AllAccepted, Listed, ListRefused}
 use Rattle.reader.specs.Reading.{NextRead}
@@ -29,14 +29,14 @@ module _ (p : ℕ) (C : Curve (Z p)) where
   pub front_none : (s : List ℕ) → Front s 0 []
   front_none s = record { inside = omega arith; is = refl; accepted = tt }
 
-  pub next-inside : (s : List ℕ) (r : Divisor) (n : ℕ) → NextRead p C s (next.Next r n) → (4 ≤ n) × (n ≤ length s)
+  pub next-inside : (s : List ℕ) (r : Divisor) (n : ℕ) → NextRead p C s (Ok (r, n)) → (4 ≤ n) × (n ≤ length s)
   next-inside s r n h = (omega (arith, h.0.1.0.0, h.1), omega (arith, h.0.1.0.1, h.1))
 
   module _ (s : List ℕ) (at : ℕ) (rs : List (List ℕ)) (front : Front s at rs) where
     left : length (drop at s) ≡ length s - at
     left = length-drop at s
 
-    pub front_more : (r : Divisor) (n : ℕ) → NextRead p C (drop at s) (next.Next r n) → Front s (at + n) (rs ++ (take n (drop at s) ∷ []))
+    pub front_more : (r : Divisor) (n : ℕ) → NextRead p C (drop at s) (Ok (r, n)) → Front s (at + n) (rs ++ (take n (drop at s) ∷ []))
     front_more r n h =
         record {
           inside = omega (arith, left, front.inside, (next-inside (drop at s) r n h).1);

@@ -1,21 +1,18 @@
--- Three coefficients at a time.
+-- All numbers of the list are below p exactly if each of the nine is.
+use Rattle.std.proofs.Common.{rules}
 use native.Mathlib.Omega.{arith}
-use Rattle.algebra.proofs.Answers.{answer-no, answer-from}
-use Rattle.checks.proofs.Answer.{nine}
+use Rattle.algebra.specs.Answers.{Answers}
+use Rattle.algebra.proofs.Answers.{answer-from}
+use Rattle.checks.specs.Contract.{AllBelow, equation_numbers}
+use Rattle.checks.proofs.Answer.{below_at, at-below}
 use Rattle.checks.proofs.coefficients_below.Goals as goal
-
-pub returns-then-not-three_below : goal.returns-then-not-three_below
-returns-then-not-three_below c = answer-no (λ h. c.three_below.ensures.fails c.if-not-three_below.true (h 0 (omega arith), (h 1 (omega arith), (h 2 (omega arith), tt))))
-
-pub returns-then-not-three_below-2 : goal.returns-then-not-three_below-2
-returns-then-not-three_below-2 c = answer-no (λ h. c.three_below-2.ensures.fails c.if-not-three_below-2.true (h 3 (omega arith), (h 4 (omega arith), (h 5 (omega arith), tt))))
 
 pub returns : goal.returns
 returns c =
-    let x = c.three_below.ensures.holds c.if-not-three_below.false in
-    let y = c.three_below-2.ensures.holds c.if-not-three_below-2.false in
+    let e = c.args.e in
+    let all : Answers (AllBelow e.p (equation_numbers e)) c.below.result = search rules in
     answer-from
-    c.three_below-3.result
-    c.three_below-3.ensures
-    (λ z. nine _ x.0 x.1.0 x.1.1.0 y.0 y.1.0 y.1.1.0 z.0 z.1.0 z.1.1.0)
-    (λ h. (h 6 (omega arith), (h 7 (omega arith), (h 8 (omega arith), tt))))
+    _
+    all
+    (λ h i l. below_at e.p (equation_numbers e) h i (omega arith))
+    (λ h. at-below e.p (equation_numbers e) (λ i l. h i (omega arith)))

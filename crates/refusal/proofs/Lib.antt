@@ -1,0 +1,2 @@
+-- What holds of results with a refusal.
+pub mod Passed

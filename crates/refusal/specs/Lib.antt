@@ -1,0 +1,2 @@
+-- The causes of refusal: their numbers, and what is printed of them.
+pub mod Refusal
