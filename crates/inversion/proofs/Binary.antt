@@ -6,7 +6,7 @@
 --   greater_first greater_second   what a turn does where y < x, and where x < y
 --   Turn turn              the numbers after a turn, and that they are a State of lesser numbers
 use Rattle.std.proofs.Common.{◌≡◌, ℕ, ◌+◌, ◌*◌, ◌/◌, ◌%◌, ◌^◌, ◌<◌, ◌≤◌, Bool, true, false, not, ltb, [], ◌∷◌, sym, refl, ap, ◌∙◌, subst, ap₂, mul-le-mul_right, mod-eq_of_lt, mul_comm, mul-le-mul, mul-le-mul_left, lt_of_not-le, arith, pow_pos, pow_mono, pow-add, ltb-false, ltb-true}
-use mathlib.Core.Bool.{beq}
+use mathlib.Core.Bool.{cond, beq}
 use native.Mathlib.Nat.{mul-mod_right}
 use lib.Count.{count_trailing_zeros}
 use Rattle.algebra.specs.Ring.{CommRing}
@@ -17,7 +17,6 @@ use Rattle.prime.specs.Prime.{Prime}
 use Rattle.field.specs.Residue.{Z, el}
 use Rattle.field.proofs.Element.{el-add, el-mul, el-zero, el-one, el_self}
 use Rattle.field.proofs.Invert.{prime-rest}
-use Rattle.inversion.specs.Contract.{chosen}
 use Rattle.inversion.proofs.Zeros.{Part, trailing, part-below, part-other, part-quotient, part-times, part-odd}
 
 abbrev pub sign : (p : ℕ) → Bool → (Z p).Car
@@ -209,14 +208,14 @@ module _ {p a x y cx cy k : ℕ} {n : Bool} (h : Prime p) (b : p < 4294967296) (
 
   pub turn : (up down d c l : ℕ) → up < 18446744073709551616 → down < 18446744073709551616
       → (up + x) % 18446744073709551616 ≡ y → (down + y) % 18446744073709551616 ≡ x
-      → d ≡ chosen (ltb x y) up down → c ≡ chosen (ltb x y) cx cy → l ≡ chosen (ltb x y) x y
+      → d ≡ cond (ltb x y) up down → c ≡ cond (ltb x y) cx cy → l ≡ cond (ltb x y) x y
       → Turn p a x y cx cy k (count_trailing_zeros 64 down) d c l (not (beq n (ltb x y)))
   turn up down d c l up-below down-below up_is down_is d_is c_is l_is = go (ltb x y) refl d_is c_is l_is
     where
       z : ℕ
       z = count_trailing_zeros 64 down
 
-      go : (t : Bool) → ltb x y ≡ t → d ≡ chosen t up down → c ≡ chosen t cx cy → l ≡ chosen t x y → Turn p a x y cx cy k z d c l (not (beq n t))
+      go : (t : Bool) → ltb x y ≡ t → d ≡ cond t up down → c ≡ cond t cx cy → l ≡ cond t x y → Turn p a x y cx cy k z d c l (not (beq n t))
       go true e d_is c_is l_is =
           let g = ltb-true x y e in
           let sum : up + x ≡ y = omega arith in

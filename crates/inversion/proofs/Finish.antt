@@ -4,7 +4,7 @@
 --   end-most               the result is at most p
 --   finish                 the result is the inverse of a
 --   small-inverse          0 and 1 are their own inverses
-use Rattle.std.proofs.Common.{◌≡◌, ℕ, zero, suc, ◌+◌, ◌-◌, ◌*◌, ◌/◌, ◌%◌, ◌^◌, ◌<◌, ◌≤◌, Bool, true, false, [], ◌∷◌, sym, ap, ◌∙◌, ap₂, pow-suc, mul-one, arith}
+use Rattle.std.proofs.Common.{cond, ◌≡◌, ℕ, zero, suc, ◌+◌, ◌-◌, ◌*◌, ◌/◌, ◌%◌, ◌^◌, ◌<◌, ◌≤◌, Bool, true, false, [], ◌∷◌, sym, ap, ◌∙◌, ap₂, pow-suc, mul-one, arith}
 use native.Mathlib.Nat.{add-mul-mod_self_right}
 use Rattle.algebra.specs.Ring.{CommRing}
 use Rattle.algebra.proofs.Laws.{neg-neg, one-mul, mul-zero, mul-neg, neg-mul, zero-add}
@@ -16,7 +16,7 @@ use Rattle.field.specs.Contract.{Is}
 use Rattle.field.specs.Inverse.{inverse}
 use Rattle.field.proofs.Element.{el-add, el-mul, el-zero, el-one, el_self, el-neg, el_pos, el-same}
 use Rattle.field.proofs.Invert.{inverse-zero, inverse_unique, prime-large, prime-rest, one_not_zero}
-use Rattle.inversion.specs.Contract.{End, chosen}
+use Rattle.inversion.specs.Contract.{End}
 use Rattle.inversion.proofs.Binary.{State, sign}
 
 pub prime-odd : (p : ℕ) → Prime p → 2 < p → p % 2 ≡ 1
@@ -43,11 +43,11 @@ module _ (p : ℕ) (o : p % 2 ≡ 1) where
 pub end-most : {p c k : ℕ} {n : Bool} {r : ℕ} → End p c k n r → r ≤ p
 end-most {p} {n = n} {r = r} e = go n e.half.0 e.half.1.most e.half.2
   where
-    go : (n : Bool) (q : ℕ) → q ≤ p → r ≡ chosen n (p - q) q → r ≤ p
+    go : (n : Bool) (q : ℕ) → q ≤ p → r ≡ cond n (p - q) q → r ≤ p
     go true q h d = omega arith
     go false q h d = omega arith
 
-el-chosen : (p q : ℕ) (n : Bool) → q ≤ p → el p (chosen n (p - q) q) ≡ (Z p).mul (sign p n) (el p q)
+el-chosen : (p q : ℕ) (n : Bool) → q ≤ p → el p (cond n (p - q) q) ≡ (Z p).mul (sign p n) (el p q)
 el-chosen p q true h = el-neg p q h ∙ ap (Z p).neg (sym (one-mul (Z p) _)) ∙ sym (neg-mul (Z p) _ _)
 el-chosen p q false h = sym (one-mul (Z p) _)
 

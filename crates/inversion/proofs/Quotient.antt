@@ -4,9 +4,9 @@
 --   half half-fits     what `halved` returns, for J = 2^j, and that its product and its sum fit
 --   two_halves         a quotient by 2^h and one by 2^l make one by 2^(h + l)
 --   end-negative end-positive      what `ended` returns
-use Rattle.std.proofs.Common.{◌≡◌, ℕ, ◌+◌, ◌-◌, ◌*◌, ◌/◌, ◌%◌, ◌^◌, ◌<◌, ◌≤◌, Bool, true, false, sym, ap, ◌∙◌, subst, mul-le-mul_right, mod-lt, div-add-mod', le_of_mul-le-mul_right, arith, pow_pos, pow_mono, pow-add, w64, Fits}
+use Rattle.std.proofs.Common.{cond, ◌≡◌, ℕ, ◌+◌, ◌-◌, ◌*◌, ◌/◌, ◌%◌, ◌^◌, ◌<◌, ◌≤◌, Bool, true, false, sym, ap, ◌∙◌, subst, mul-le-mul_right, mod-lt, div-add-mod', le_of_mul-le-mul_right, arith, pow_pos, pow_mono, pow-add, w64, Fits}
 use native.Mathlib.Nat.{mul-mod_left, add-mul-mod_self_right}
-use Rattle.inversion.specs.Contract.{HalfAsked, Half, End, chosen}
+use Rattle.inversion.specs.Contract.{HalfAsked, Half, End}
 
 exact : (n a b J : ℕ) → n + a * J ≡ b * J → n / J * J ≡ n
 exact n a b J e = omega (arith, div-add-mod' n J, sym (add-mul-mod_self_right n a J) ∙ ap (λ (m : ℕ). m % J) e ∙ mul-mod_left b J)
@@ -53,7 +53,7 @@ two_halves p c h l s r k x y e =
 
 module _ {p c k q : ℕ} {n : Bool} (h : Half p c k q) where
   pub end-negative : n ≡ true → End p c k n (p - q)
-  end-negative e = record { half = (q, h, ap (λ (b : Bool). chosen b (p - q) q) (sym e)) }
+  end-negative e = record { half = (q, h, ap (λ (b : Bool). cond b (p - q) q) (sym e)) }
 
   pub end-positive : n ≡ false → End p c k n q
-  end-positive e = record { half = (q, h, ap (λ (b : Bool). chosen b (p - q) q) (sym e)) }
+  end-positive e = record { half = (q, h, ap (λ (b : Bool). cond b (p - q) q) (sym e)) }

@@ -6,9 +6,8 @@
 --   HalfAsked p v c j  v is −1/p modulo 2^32, c is at most p and j at most 32
 --   Half p c j r       r is c / 2^j modulo p, and at most p
 --   EndAsked p v c k   v is −1/p modulo 2^32, c is at most p and k below 64
---   chosen b x y       x where b holds, and y otherwise
 --   End p c k n r      r is c / 2^k modulo p, with the sign n, and at most p
-use Rattle.std.specs.Prelude.{◌≡◌, ℕ, ◌+◌, ◌-◌, ◌*◌, ◌%◌, ◌^◌, ◌<◌, ◌≤◌, Bool, true, false}
+use Rattle.std.specs.Prelude.{◌≡◌, ℕ, ◌+◌, ◌-◌, ◌*◌, ◌%◌, ◌^◌, ◌<◌, ◌≤◌, Bool, cond}
 
 pub record Low (x y : ℕ) : Type 0 where
   pub below : x < 4294967296
@@ -41,9 +40,5 @@ pub record EndAsked (p v c k : ℕ) : Type 0 where
   pub most : c ≤ p
   pub bits : k < 64
 
-abbrev pub chosen : {A : Type 0} → Bool → A → A → A
-chosen true x y = x
-chosen false x y = y
-
 pub record End (p c k : ℕ) (n : Bool) (r : ℕ) : Type 0 where
-  pub half : (q : ℕ) × Half p c k q × (r ≡ chosen n (p - q) q)
+  pub half : (q : ℕ) × Half p c k q × (r ≡ cond n (p - q) q)

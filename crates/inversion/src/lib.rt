@@ -5,7 +5,9 @@ ghost use Rattle.field.specs.Residue.{Z, el};
 ghost use Rattle.field.specs.Contract.{Invertible, Is};
 ghost use Rattle.field.specs.Inverse.{inverse as inv};
 ghost use Rattle.std.specs.Prelude.{◌≡◌, ◌^◌, ◌≤◌};
-ghost use Rattle.inversion.specs.Contract.{Low, Odd, Opposite, OppositeOf, HalfAsked, Half, EndAsked, End, chosen};
+ghost use Rattle.inversion.specs.Contract.{Low, Odd, Opposite, OppositeOf, HalfAsked, Half, EndAsked, End};
+
+use std::hint::select_unpredictable;
 
 // x·y modulo 2^32
 fn low(x: u64, y: u64) -> u64
@@ -71,13 +73,6 @@ fn ended(p: u64, v: u64, c: u64, k: u32, negative: bool) -> u64
     if negative { p - r } else { r }
 }
 
-// x where b holds, and y otherwise
-fn pick(b: bool, x: u64, y: u64) -> u64
-    ensures { result ≡ chosen b x y }
-{
-    if b { x } else { y }
-}
-
 // a⁻¹ for a prime p, and 0 for a = 0, where v is −1/p modulo 2^32 if p is odd. In each turn x and y are odd and
 // x·cy + y·cx = p, and modulo p a·cy = 2^k·y and a·cx = −2^k·x, or both with the other sign. The difference of x and y
 // takes the place of the greater, with its factors of 2 taken out.
@@ -101,9 +96,9 @@ pub fn inverse_by(p: u32, v: u64, a: u32) -> u32
         let up = std::num::wrapping_sub_u64(y, x);
         let down = std::num::wrapping_sub_u64(x, y);
         let z = u64::trailing_zeros(down);
-        let d = pick(less, up, down);
-        let c = pick(less, cx, cy);
-        y = pick(less, x, y);
+        let d = select_unpredictable(less, up, down);
+        let c = select_unpredictable(less, cx, cy);
+        y = select_unpredictable(less, x, y);
         cx = cx + cy;
         cy = c << z;
         x = d >> z;

@@ -6,14 +6,14 @@ use Rattle.inversion.proofs.Zeros.{trailing, part-below}
 use Rattle.inversion.proofs.Binary.{state-start, state-bits, state-sum, Turn, turn}
 use Rattle.inversion.proofs.Finish.{prime-odd, end-most, finish, small-inverse}
 use Rattle.inversion.proofs.inverse_by.Goals as goal
-use Rattle.inversion.proofs.inverse_by.Goals.{After-pick-y}
+use Rattle.inversion.proofs.inverse_by.Goals.{After-select_unpredictable-y}
 
 -- what the calls of a turn give
-turned : (c : After-pick-y) → Turn c.args.p c.args.a c.loop-y.x c.loop-y.y c.loop-y.cx c.loop-y.cy c.loop-y.k (count_trailing_zeros 64 c.wrapping_sub_u64-down.result)
-    c.pick-d.result c.pick-c.result c.pick-y.result (not (beq c.loop-y.negative (ltb c.loop-y.x c.loop-y.y)))
+turned : (c : After-select_unpredictable-y) → Turn c.args.p c.args.a c.loop-y.x c.loop-y.y c.loop-y.cx c.loop-y.cy c.loop-y.k (count_trailing_zeros 64 c.wrapping_sub_u64-down.result)
+    c.select_unpredictable-d.result c.select_unpredictable-c.result c.select_unpredictable-y.result (not (beq c.loop-y.negative (ltb c.loop-y.x c.loop-y.y)))
 turned c =
     turn c.requires.invertible.prime (omega arith) c.loop-y.invariant (λ e. omega arith) _ _ _ _ _ (omega arith) (omega arith) c.wrapping_sub_u64-up.ensures.value c.wrapping_sub_u64-down.ensures.value
-    c.pick-d.ensures c.pick-c.ensures c.pick-y.ensures
+    c.select_unpredictable-d.ensures c.select_unpredictable-c.ensures c.select_unpredictable-y.ensures
 
 pub returns-then-a-lt2 : goal.returns-then-a-lt2
 returns-then-a-lt2 c = small-inverse _ _ c.requires.invertible.prime (omega arith)
@@ -33,38 +33,29 @@ wrapping_sub_u64-up-requires c = tt
 pub wrapping_sub_u64-down-requires : goal.wrapping_sub_u64-down-requires
 wrapping_sub_u64-down-requires c = tt
 
-pub pick-d-requires : goal.pick-d-requires
-pick-d-requires c = tt
-
-pub pick-c-requires : goal.pick-c-requires
-pick-c-requires c = tt
-
-pub pick-y-requires : goal.pick-y-requires
-pick-y-requires c = tt
-
 pub overflow_add-cx : goal.overflow_add-cx
 overflow_add-cx c = omega (arith, state-sum c.loop-y.invariant)
 
 pub overflow_cast-cy : goal.overflow_cast-cy
-overflow_cast-cy c = omega (arith, (turned (goal.at.overflow_cast-cy c).After-pick-y).zeros)
+overflow_cast-cy c = omega (arith, (turned (goal.at.overflow_cast-cy c).After-select_unpredictable-y).zeros)
 
 pub overflow_shl-cy : goal.overflow_shl-cy
-overflow_shl-cy c = (turned (goal.at.overflow_shl-cy c).After-pick-y).zeros
+overflow_shl-cy c = (turned (goal.at.overflow_shl-cy c).After-select_unpredictable-y).zeros
 
 pub overflow_cast-x : goal.overflow_cast-x
-overflow_cast-x c = omega (arith, (turned (goal.at.overflow_cast-x c).After-pick-y).zeros)
+overflow_cast-x c = omega (arith, (turned (goal.at.overflow_cast-x c).After-select_unpredictable-y).zeros)
 
 pub overflow_shr-x : goal.overflow_shr-x
-overflow_shr-x c = (turned (goal.at.overflow_shr-x c).After-pick-y).zeros
+overflow_shr-x c = (turned (goal.at.overflow_shr-x c).After-select_unpredictable-y).zeros
 
 pub overflow_add-k : goal.overflow_add-k
-overflow_add-k c = omega (arith, state-bits (turned (goal.at.overflow_add-k c).After-pick-y).state)
+overflow_add-k c = omega (arith, state-bits (turned (goal.at.overflow_add-k c).After-select_unpredictable-y).state)
 
 pub loop-y-smaller : goal.loop-y-smaller
-loop-y-smaller c = (turned (goal.at.loop-y-smaller c).After-pick-y).less
+loop-y-smaller c = (turned (goal.at.loop-y-smaller c).After-select_unpredictable-y).less
 
 pub loop-y-preserved : goal.loop-y-preserved
-loop-y-preserved c = (turned (goal.at.loop-y-preserved c).After-pick-y).state
+loop-y-preserved c = (turned (goal.at.loop-y-preserved c).After-select_unpredictable-y).state
 
 pub ended-requires : goal.ended-requires
 ended-requires c =

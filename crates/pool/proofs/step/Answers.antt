@@ -2,6 +2,8 @@
 use mir.Facts.{to_z-of_z}
 use mir.Syntax.{w32}
 use native.Mathlib.Omega.{arith}
+use lib.Seq.{length-take-le}
+use Rattle.slots.proofs.Slots.{copied_front}
 use Rattle.pool.proofs.OneCall.{sizes, step_short, cast_fits, copy_fits, step_long}
 use Rattle.pool.proofs.step.Goals as goal
 
@@ -38,7 +40,7 @@ copy_in-requires c =
     let read = to_z-of_z {w = w32} {z = k.result} (record { sfits = k.type_inv }) in
     let fits = copy_fits a.curve.now a.s.now a.n a.i a.j q a.out.now k.result out k.ensures _ read (omega arith) c.close_up.new.s
     (omega arith) (omega arith) in
-    record { n_in_bounds = fits.0; n_in_bounds_2 = fits.1 }
+    omega (arith, fits.0, length-take-le _ _ fits.1)
 
 pub returns : goal.returns
 returns c =
@@ -47,6 +49,8 @@ returns c =
     let k = c.sum_slots-r in
     let out = k.new.out in
     let read = to_z-of_z {w = w32} {z = k.result} (record { sfits = k.type_inv }) in
+    let fits = copy_fits a.curve.now a.s.now a.n a.i a.j q a.out.now k.result out k.ensures _ read (omega arith) c.close_up.new.s
+    (omega arith) (omega arith) in
     step_long a.curve.now a.s.now a.n a.i a.j q a.out.now k.result out k.ensures _ read (omega arith)
     c.close_up.new.s c.copy_in.new.s (omega arith)
-    c.close_up.ensures c.copy_in.ensures
+    c.close_up.ensures (copied_front _ _ _ _ _ fits.1 c.copy_in.ensures)
