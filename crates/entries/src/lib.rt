@@ -89,9 +89,9 @@ fn parts_of(modulus: Modulus, o: Lower, n: Divisor) -> Parts
     let t8 = field::add(modulus.p, o.n8, n.n8);
     let t = modulus.more1(t8, n.n2, r2);
     let t7 = field::add(modulus.p, o.n7, n.n7);
-    let s0 = chains::more2_less1(modulus, t7, n.n2, r1, n.n1, r2, o.n11, n.n8);
+    let s0 = chains::sum(modulus, t7, [(n.n2, r1), (n.n1, r2)], [(o.n11, n.n8)]);
     let t6 = field::sub(modulus.p, a0, o.n6);
-    let r0 = chains::more1_less1(modulus, t6, o.n11, n.n7, n.n1, r1);
+    let r0 = chains::sum(modulus, t6, [(o.n11, n.n7)], [(n.n1, r1)]);
     let k = modulus.more1(r1, o.n12, n.n5);
     let l = field::add(modulus.p, r2, a2);
     Parts {
@@ -115,7 +115,7 @@ fn first_twin(modulus: Modulus, o: Lower, n: Divisor, w: Parts) -> Column
     ensures { FirstTwin modulus.p o n w result }
 {
     let t0 = field::neg(modulus.p, n.n3);
-    let one = chains::more2_less1(modulus, t0, n.n2, w.s0, o.n11, n.n0, w.s, w.t);
+    let one = chains::sum(modulus, t0, [(n.n2, w.s0), (o.n11, n.n0)], [(w.s, w.t)]);
     let t1 = field::add(modulus.p, w.t, n.n4);
     let t2 = field::neg(modulus.p, t1);
     let x = modulus.more1(t2, o.n11, n.n5);
@@ -131,13 +131,13 @@ fn second_twin(modulus: Modulus, o: Lower, n: Divisor, w: Parts) -> Column
 {
     let t0 = field::neg(modulus.p, n.n6);
     let t1 = field::add(modulus.p, w.r0, w.a0);
-    let one = chains::more2_less1(modulus, t0, n.n2, t1, o.n11, n.n3, n.n4, w.t);
+    let one = chains::sum(modulus, t0, [(n.n2, t1), (o.n11, n.n3)], [(n.n4, w.t)]);
     let t2 = field::neg(modulus.p, n.n7);
     let t3 = field::add(modulus.p, w.r1, w.a1);
     let x = modulus.more1(t2, n.n2, t3);
     let t4 = field::add(modulus.p, w.t, n.n8);
     let t5 = field::sub(modulus.p, n.n4, t4);
-    let y = chains::more2(modulus, t5, n.n2, w.l, o.n11, n.n5);
+    let y = chains::sum(modulus, t5, [(n.n2, w.l), (o.n11, n.n5)], []);
     Column { one, x, y }
 }
 
@@ -146,11 +146,16 @@ fn third_twin(modulus: Modulus, o: Lower, n: Divisor, w: Parts) -> Column
     requires { TwinAsked modulus.p o n w }
     ensures { ThirdTwin modulus.p o n w result }
 {
-    let one = chains::more3_less1(modulus, 0, w.k, n.n0, w.l, n.n3, n.n4, w.s0, w.s, w.r0);
+    let one = chains::sum(
+        modulus,
+        0,
+        [(w.k, n.n0), (w.l, n.n3), (n.n4, w.s0)],
+        [(w.s, w.r0)],
+    );
     let t0 = field::add(modulus.p, w.a0, w.r0);
     let t1 = field::neg(modulus.p, t0);
-    let x = chains::more2_less1(modulus, t1, w.k, n.n1, w.l, n.n4, w.s, w.r1);
-    let y = chains::more2_less1(modulus, w.s0, w.k, n.n2, w.l, n.n5, w.s, w.r2);
+    let x = chains::sum(modulus, t1, [(w.k, n.n1), (w.l, n.n4)], [(w.s, w.r1)]);
+    let y = chains::sum(modulus, w.s0, [(w.k, n.n2), (w.l, n.n5)], [(w.s, w.r2)]);
     Column { one, x, y }
 }
 

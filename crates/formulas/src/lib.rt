@@ -80,7 +80,7 @@ pub fn factors_of(modulus: Modulus, o: Lower, f2: u32, z: u32, b: u32, c: u32, e
     ensures { FactorsOf modulus.p o f2 z b c e result }
 {
     let w0 = field::sub(modulus.p, e, b);
-    let w1 = chains::more1_less1(modulus, w0, z, f2, o.n11, c);
+    let w1 = chains::sum(modulus, w0, [(z, f2)], [(o.n11, c)]);
     let w2 = modulus.mul(o.n12, c);
     let zz = modulus.mul(z, z);
     let zc = modulus.mul(z, c);
@@ -117,7 +117,7 @@ pub fn head_of(modulus: Modulus, o: Lower, u: Tail, v: Tail, a: u32, b: u32) -> 
     let r0 = modulus.more1(w2, l, w3);
     let w4 = modulus.mul(o.n12, f2);
     let w5 = field::add(modulus.p, u.t3, r0);
-    let g1 = chains::more1_less2(modulus, v.t3, o.n9, a, l, w5, w4, q);
+    let g1 = chains::sum(modulus, v.t3, [(o.n9, a)], [(l, w5), (w4, q)]);
     let e3 = modulus.less1(v.t3, l, u.t3);
     let e4 = modulus.less1(v.t4, l, u.t4);
     Head {
@@ -140,17 +140,22 @@ pub fn body_of(modulus: Modulus, o: Lower, u: Tail, v: Tail, a: u32, h: Head, i:
     let m = modulus.less1(h.e4, o.n11, h.q);
     let w1 = field::neg(modulus.p, u.t2);
     let w2 = field::add(modulus.p, h.g1, o.n8);
-    let w = chains::more2_less1(modulus, w1, h.f2, m, a, w2, h.q, h.r0);
+    let w = chains::sum(modulus, w1, [(h.f2, m), (a, w2)], [(h.q, h.r0)]);
     let g2 = modulus.mul(i, w);
     let f1 = field::add(modulus.p, h.r0, g2);
     let k1 = modulus.less1(h.e3, o.n10, h.q);
     let w3 = field::sub(modulus.p, u.t1, v.t2);
-    let w4 = chains::more2_less2(modulus, w3, h.g1, u.t4, h.l, u.t2, h.f2, k1, o.n7, a);
-    let f0 = chains::more1_less1(modulus, w4, g2, h.k2, f1, h.e4);
+    let w4 = chains::sum(
+        modulus,
+        w3,
+        [(h.g1, u.t4), (h.l, u.t2)],
+        [(h.f2, k1), (o.n7, a)],
+    );
+    let f0 = chains::sum(modulus, w4, [(g2, h.k2)], [(f1, h.e4)]);
     let k3 = modulus.cross(h.f2, h.q, g2, a);
-    let w5 = chains::more1_less1(modulus, v.t1, o.n6, a, h.g1, u.t3);
+    let w5 = chains::sum(modulus, v.t1, [(o.n6, a)], [(h.g1, u.t3)]);
     let w6 = field::add(modulus.p, f0, u.t1);
-    let g0 = chains::more1_less2(modulus, w5, f1, h.e3, o.n9, k3, h.l, w6);
+    let g0 = chains::sum(modulus, w5, [(f1, h.e3)], [(o.n9, k3), (h.l, w6)]);
     Body { g2, f1, f0, g0 }
 }
 
@@ -161,7 +166,7 @@ pub fn last_of(modulus: Modulus, h: Head, b: Body, i: u32) -> Last
 {
     let k = modulus.mul(i, h.r0);
     let l = modulus.mul(i, h.g1);
-    let h2 = chains::more1_less1(modulus, h.g1, i, b.f0, b.g2, k);
+    let h2 = chains::sum(modulus, h.g1, [(i, b.f0)], [(b.g2, k)]);
     let h1 = modulus.cross(l, b.g2, i, b.g0);
     let h0 = modulus.cross(b.f0, l, b.g0, k);
     Last { h0, h1, h2 }

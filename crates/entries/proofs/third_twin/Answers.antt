@@ -8,8 +8,8 @@ pub returns : goal.returns
 returns c =
     let a = c.args in
     record {
-      below = record { one = c.more3_less1-one.ensures.below; x = c.more2_less1-x.ensures.below; y = c.more2_less1-y.ensures.below };
-      one_is = c.more3_less1-one.ensures.is;
-      x_is = c.more2_less1-x.ensures.is ∙ (λ i. more₂_less₁ (Z a.modulus.p) ((c.neg-t1.ensures.is ∙ (λ i. (Z a.modulus.p).neg (c.add-t0.ensures.is i))) i) (el a.modulus.p a.w.k) (el a.modulus.p a.n.n1) (el a.modulus.p a.w.l) (el a.modulus.p a.n.n4) (el a.modulus.p a.w.s) (el a.modulus.p a.w.r1));
-      y_is = c.more2_less1-y.ensures.is;
+      below = record { one = c.sum-one.ensures.below; x = c.sum-x.ensures.below; y = c.sum-y.ensures.below };
+      one_is = c.sum-one.ensures.is;
+      x_is = c.sum-x.ensures.is ∙ (λ i. more₂_less₁ (Z a.modulus.p) ((c.neg-t1.ensures.is ∙ (λ i. (Z a.modulus.p).neg (c.add-t0.ensures.is i))) i) (el a.modulus.p a.w.k) (el a.modulus.p a.n.n1) (el a.modulus.p a.w.l) (el a.modulus.p a.n.n4) (el a.modulus.p a.w.s) (el a.modulus.p a.w.r1));
+      y_is = c.sum-y.ensures.is;
     }

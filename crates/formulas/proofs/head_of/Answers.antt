@@ -15,13 +15,13 @@ pub returns : goal.returns
 returns c =
     let a = c.args in
     record {
-      below = record { l = c.mul-l.ensures.below; q = c.less1-q.ensures.below; f2 = c.less1-f2.ensures.below; k2 = c.less1-k2.ensures.below; r0 = c.more1-r0.ensures.below; g1 = c.more1_less2-g1.ensures.below; e3 = c.less1-e3.ensures.below; e4 = c.less1-e4.ensures.below };
+      below = record { l = c.mul-l.ensures.below; q = c.less1-q.ensures.below; f2 = c.less1-f2.ensures.below; k2 = c.less1-k2.ensures.below; r0 = c.more1-r0.ensures.below; g1 = c.sum-g1.ensures.below; e3 = c.less1-e3.ensures.below; e4 = c.less1-e4.ensures.below };
       l_is = c.mul-l.ensures.is;
       q_is = c.less1-q.ensures.is;
       f2_is = c.less1-f2.ensures.is ∙ (λ i. less₁ (Z a.modulus.p) (c.add-w1.ensures.is i) (el a.modulus.p a.o.n11) (el a.modulus.p a.a));
       k2_is = c.less1-k2.ensures.is;
       r0_is = c.more1-r0.ensures.is ∙ (λ i. more₁ (Z a.modulus.p) (c.sub-w2.ensures.is i) (el a.modulus.p c.mul-l.result) (c.add-w3.ensures.is i));
-      g1_is = c.more1_less2-g1.ensures.is ∙ (λ i. more₁_less₂ (Z a.modulus.p) (el a.modulus.p a.v.t3) (el a.modulus.p a.o.n9) (el a.modulus.p a.a) (el a.modulus.p c.mul-l.result) (c.add-w5.ensures.is i) (c.mul-w4.ensures.is i) (el a.modulus.p c.less1-q.result));
+      g1_is = c.sum-g1.ensures.is ∙ (λ i. more₁_less₂ (Z a.modulus.p) (el a.modulus.p a.v.t3) (el a.modulus.p a.o.n9) (el a.modulus.p a.a) (el a.modulus.p c.mul-l.result) (c.add-w5.ensures.is i) (c.mul-w4.ensures.is i) (el a.modulus.p c.less1-q.result));
       e3_is = c.less1-e3.ensures.is;
       e4_is = c.less1-e4.ensures.is;
     }

@@ -1,0 +1,2 @@
+-- The loops over the products of a sum.
+pub mod Loops

@@ -1,6 +1,0 @@
--- `chains::more1_less1` meets its contract: each product is added to the sum before it or taken from it, and the sum is reduced.
-use Rattle.barrett.proofs.Sums.{reduced, less-after}
-use Rattle.chains.proofs.more1_less1.Goals as goal
-
-pub returns : goal.returns
-returns c = reduced c.reduce_half.ensures (less-after _ _ c.add_product-s1.ensures c.sub_product.ensures)

@@ -1,6 +1,0 @@
--- `chains::more3_less1` meets its contract: each product is added to the sum before it or taken from it, and the sum is reduced.
-use Rattle.barrett.proofs.Sums.{reduced, more-after, less-after}
-use Rattle.chains.proofs.more3_less1.Goals as goal
-
-pub returns : goal.returns
-returns c = reduced c.reduce.ensures (less-after _ _ (more-after _ _ (more-after _ _ c.add_product-s1.ensures c.add_product-s2.ensures) c.add_product-s3.ensures) c.sub_product.ensures)
