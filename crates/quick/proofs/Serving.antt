@@ -2,7 +2,6 @@
 --   denied, granted        what a test of a negation says
 --   not_short, not_typical-first, not_typical-second       where a condition of the request fails, it is not
 --   served-at, tried-served        where all hold, the formulas decide
---   serves-some, serves-none       whether there is a sum says whether they serve
 use mathlib.Core.Path.{◌≡◌, refl, sym, ◌∙◌, ap, subst}
 use mathlib.Core.Bool.{Bool, true, false, not, true≢false, false≢true}
 use mathlib.Core.List.{List}
@@ -147,18 +146,3 @@ tried-served {g} {x} {y} {t} T s tx ty c o a b v u =
 
     h' : Given31 c b y
     h' = given_31 (accepted_limit c o.accepted) u ty.kind
-
-module _ {c a b : List ℕ} {t : Option Divisor} where
-  pub serves-some : ServedOn c a b t → is_some t ≡ true → Serves c a b
-  serves-some = go t
-    where
-      go : (t : Option Divisor) → ServedOn c a b t → is_some t ≡ true → Serves c a b
-      go None S e = absurd (false≢true e)
-      go (Some r) S e = S.yes.0
-
-  pub serves-none : ServedOn c a b t → is_some t ≡ false → ¬ Serves c a b
-  serves-none = go t
-    where
-      go : (t : Option Divisor) → ServedOn c a b t → is_some t ≡ false → ¬ Serves c a b
-      go None S e = S.no
-      go (Some r) S e = absurd (true≢false e)
