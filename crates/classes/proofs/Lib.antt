@@ -2,3 +2,4 @@
 pub mod Values
 pub mod Read
 pub mod Multiple
+pub mod Made

@@ -1,80 +1,48 @@
-// Sums, negatives and multiples of divisors in bytes, on the ground of a curve. Each function that ends in `_on` reads its divisors in
-// document 01's order and gives the result by value, or the number of the first cause of refusal.
+// What is made of divisors in bytes by value: the curve is read first, then the divisors in document 01's order, and the first cause of refusal
+// decides. The multiple of a divisor by value.
 #![tactic(auto)]
 
-ghost use Rattle.std.specs.Prelude.{◌++◌};
 ghost use Rattle.group.specs.Contract.{NegativeAsked};
-ghost use Rattle.calls.specs.Class.{IsSum, IsNegative, IsMultiple};
-ghost use Rattle.calls.specs.Call.{divisor_of};
-ghost use Rattle.classes.specs.Found.{Curved, OnCurves, Found, MultipleMade};
+ghost use Rattle.reader.specs.Reading.{On, GivenOn};
+ghost use Rattle.classes.specs.Found.{OnCurves, MultipleMade};
+ghost use Rattle.classes.specs.Made.{OneMade, TwoMade};
 
 use basis::Divisor;
 use ground::Ground;
-use reader::{DivisorAnswer, TwoAnswer};
+use refusal::Refusal;
 use whole::Whole;
 
-// The sum of two divisors.
-pub fn sum_on(g: Ground, a: &[u8], b: &[u8]) -> DivisorAnswer
-    requires { Curved g }
-    ensures { OnCurves g (λ c. Found c (divisor_of c a.now ++ divisor_of c b.now) (IsSum c a.now b.now) result) }
+// What is made of a divisor on a curve.
+pub fn of_one<T, F: FnOnce(Ground, Divisor) -> T>(
+    curve: &[u8],
+    a: &[u8],
+    make: F,
+) -> Result<T, Refusal>
+    requires { (g : Ground) (x : Divisor) → On curve.now g → GivenOn curve.now a.now x → F.pre make g x }
+    ensures { OneMade curve.now a.now (F.post make) result }
 {
-    let read = reader::read_two(g, a, b);
-    match read {
-        TwoAnswer::Two(x, y) => {
-            let r = group::sum(g, x, y);
-            DivisorAnswer::Divisor(r)
-        }
-        TwoAnswer::Refused(n) => DivisorAnswer::Refused(n),
-    }
+    let g = ground::of(reader::read_curve(curve)?);
+    let x = reader::read_divisor(g, a)?;
+    Ok(make(g, x))
 }
 
-// The sum of a divisor with itself.
-pub fn double_on(g: Ground, a: &[u8]) -> DivisorAnswer
-    requires { Curved g }
-    ensures { OnCurves g (λ c. Found c (divisor_of c a.now) (IsSum c a.now a.now) result) }
+// What is made of two divisors on a curve.
+pub fn of_two<T, F: FnOnce(Ground, Divisor, Divisor) -> T>(
+    curve: &[u8],
+    a: &[u8],
+    b: &[u8],
+    make: F,
+) -> Result<T, Refusal>
+    requires { (g : Ground) (x y : Divisor) → On curve.now g → GivenOn curve.now a.now x → GivenOn curve.now b.now y → F.pre make g x y }
+    ensures { TwoMade curve.now a.now b.now (F.post make) result }
 {
-    let read = reader::read_divisor(g, a);
-    match read {
-        DivisorAnswer::Divisor(x) => {
-            let r = group::sum(g, x, x);
-            DivisorAnswer::Divisor(r)
-        }
-        DivisorAnswer::Refused(n) => DivisorAnswer::Refused(n),
-    }
-}
-
-// The negative of a divisor.
-pub fn negative_on(g: Ground, a: &[u8]) -> DivisorAnswer
-    requires { Curved g }
-    ensures { OnCurves g (λ c. Found c (divisor_of c a.now) (IsNegative c a.now) result) }
-{
-    let read = reader::read_divisor(g, a);
-    match read {
-        DivisorAnswer::Divisor(x) => {
-            let r = group::negative(g, x);
-            DivisorAnswer::Divisor(r)
-        }
-        DivisorAnswer::Refused(n) => DivisorAnswer::Refused(n),
-    }
-}
-
-// The multiple of a divisor by n.
-pub fn multiple_on(g: Ground, a: &[u8], n: i64) -> DivisorAnswer
-    requires { Curved g }
-    ensures { OnCurves g (λ c. Found c (divisor_of c a.now) (IsMultiple c a.now n) result) }
-{
-    let read = reader::read_divisor(g, a);
-    match read {
-        DivisorAnswer::Divisor(x) => {
-            let r = multiple_of(g, x, n);
-            DivisorAnswer::Divisor(r)
-        }
-        DivisorAnswer::Refused(n) => DivisorAnswer::Refused(n),
-    }
+    let g = ground::of(reader::read_curve(curve)?);
+    let (x, y) = reader::read_two(g, a, b)?;
+    Ok(make(g, x, y))
 }
 
 // The multiple of a divisor by value by n.
-fn multiple_of(g: Ground, x: Divisor, n: i64) -> Divisor
+pub fn multiple_of(g: Ground, x: Divisor, n: i64) -> Divisor
     requires { NegativeAsked g x }
     ensures { OnCurves g (λ c. MultipleMade c x n result) }
 {

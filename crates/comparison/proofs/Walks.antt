@@ -1,12 +1,13 @@
 -- What a walk over two divisors meets.
 --   met                    on accepted divisors, whose bytes are whole words, the words tell whether the bytes are the same
---   curve_refused, divisor_refused     the curve's causes come first
---   walk_met, walk_cause   what walked found: a walk, or the first cause
+--   walk-read              what walked found: a walk, or the first cause
 use mathlib.Core.Path.{◌≡◌, sym, ap, subst, ◌∙◌}
 use mathlib.Core.Logic.{inl, inr}
 use mathlib.Core.List.{List, ◌++◌}
 use Prim.Native.Nat.{ℕ, ◌*◌, ◌/◌, ◌≤◌}
 use native.Mathlib.Omega.{arith}
+use Rattle.std.specs.Prelude.{Result, Ok, Err}
+use Rattle.refusal.specs.declared.Refusal.{Refusal}
 use lib.ListN.{length}
 use Rattle.algebra.proofs.Answers.{answer-from}
 use Rattle.divisor.specs.Kind.{size}
@@ -15,6 +16,7 @@ use Rattle.words.specs.Words.{words}
 use Rattle.words.specs.Contract.{WalkOf}
 use Rattle.words.specs.declared.Walk.{Walk}
 use Rattle.words.proofs.Compared.{compared-most, length_words, same-words}
+use Rattle.ground.specs.declared.Ground.{Ground}
 use Rattle.basis.specs.declared.Divisor.{Divisor}
 use Rattle.record.specs.Cause.{FirstCause}
 use Rattle.record.specs.Curve.{curve_stages, AcceptedCurve}
@@ -24,9 +26,8 @@ use Rattle.reader.specs.Reading.{GivenOn}
 use Rattle.calls.specs.Call.{divisor_of}
 use Rattle.calls.proofs.Exists.{two-passes}
 use Rattle.classes.proofs.Values.{given_record}
-use Rattle.comparison.specs.Met.{two_stages, Met, WalkRead}
-use Rattle.comparison.specs.declared.WalkAnswer.{WalkAnswer}
-use Rattle.comparison.specs.declared.WalkAnswer.TheVariants as answer
+use Rattle.classes.specs.Made.{TwoMade}
+use Rattle.comparison.specs.Met.{Met, WalkRead}
 
 module _ (c : List ℕ) where
   module _ (s : List ℕ) {x : Divisor} (v : GivenOn c s x) where
@@ -51,15 +52,7 @@ module _ (c : List ℕ) where
           few = omega (arith, h.count, compared-most (words a) (words b), length_words a, given-few a v);
         }
 
-    pub curve_refused : (n : ℕ) → FirstCause (curve_stages c) n → FirstCause (two_stages c a b) n
-    curve_refused n f = (first_append (curve_stages c) (divisor_of c a ++ divisor_of c b) n).1 (inl f)
-
-    pub divisor_refused : (n : ℕ) → AcceptedCurve c → FirstCause (divisor_of c a ++ divisor_of c b) n → FirstCause (two_stages c a b) n
-    divisor_refused n A f = (first_append (curve_stages c) (divisor_of c a ++ divisor_of c b) n).1 (inr (A, f))
-
-    module _ (r : WalkAnswer) (h : WalkRead c a b r) where
-      pub walk_met : (w : Walk) → r ≡ answer.Walk w → Met c a b w
-      walk_met w q = subst (WalkRead c a b) q h
-
-      pub walk_cause : (n : ℕ) → r ≡ answer.Refused n → FirstCause (two_stages c a b) n
-      walk_cause n q = subst (WalkRead c a b) q h
+    pub walk-read : {Post : Ground → Divisor → Divisor → Walk → Type 0} → ((g : Ground) (x y : Divisor) (w : Walk) → Post g x y w → WalkOf a b w)
+        → (r : Result Walk Refusal) → TwoMade c a b Post r → WalkRead c a b r
+    walk-read each (Ok w) m = met m.on.accepted (m.given, m.given_second) w (each _ _ _ w m.made)
+    walk-read each (Err e) f = f

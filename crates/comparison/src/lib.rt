@@ -4,50 +4,23 @@
 ghost use Rattle.calls.specs.Call.{Compare, CompareWords};
 ghost use Rattle.comparison.specs.Met.{WalkRead};
 
-use reader::{CurveAnswer, TwoAnswer};
+use refusal::Refusal;
 use words::Walk;
 
-// The walk over two accepted divisors, or the number of the first cause of refusal.
-#[derive(Clone, Copy)]
-enum WalkAnswer {
-    Walk(Walk),
-    Refused(u8),
-}
-
 // Reads the curve and the two divisors, and walks over them.
-fn walked(curve: &[u8], a: &[u8], b: &[u8]) -> WalkAnswer
+fn walked(curve: &[u8], a: &[u8], b: &[u8]) -> Result<Walk, Refusal>
     ensures { WalkRead curve.now a.now b.now result }
 {
-    let read = reader::read_curve(curve);
-    match read {
-        CurveAnswer::Curve(e) => {
-            let g = ground::of(e);
-            let next = reader::read_two(g, a, b);
-            match next {
-                TwoAnswer::Two(_, _) => {
-                    let met = words::compare(a, b);
-                    WalkAnswer::Walk(met)
-                }
-                TwoAnswer::Refused(n) => WalkAnswer::Refused(n),
-            }
-        }
-        CurveAnswer::Refused(n) => WalkAnswer::Refused(n),
-    }
+    classes::of_two(curve, a, b, |_, _, _| words::compare(a, b))
 }
 
 // 1 if two divisors have the same bytes, else 0.
 pub fn compare(curve: &[u8], a: &[u8], b: &[u8]) -> i32
     ensures { Compare curve.now a.now b.now result }
 {
-    let found = walked(curve, a, b);
-    match found {
-        WalkAnswer::Walk(walk) => {
-            if walk.same {
-                return 1;
-            }
-            0
-        }
-        WalkAnswer::Refused(n) => reply::refusal(n),
+    match walked(curve, a, b) {
+        Ok(walk) => i32::from(walk.same),
+        Err(cause) => reply::refusal(cause),
     }
 }
 
@@ -55,9 +28,8 @@ pub fn compare(curve: &[u8], a: &[u8], b: &[u8]) -> i32
 pub fn compare_words(curve: &[u8], a: &[u8], b: &[u8]) -> i32
     ensures { CompareWords curve.now a.now b.now result }
 {
-    let found = walked(curve, a, b);
-    match found {
-        WalkAnswer::Walk(walk) => walk.compared as i32,
-        WalkAnswer::Refused(n) => reply::refusal(n),
+    match walked(curve, a, b) {
+        Ok(walk) => walk.compared as i32,
+        Err(cause) => reply::refusal(cause),
     }
 }

@@ -1,13 +1,11 @@
 -- A divisor that was found is written.
---   known                  a divisor that was found has the number of a kind
 --   write_asked, write_fits, wrote     its record is written
---   wrote_answer           … of the answer that was matched
-use mathlib.Core.Path.{◌≡◌, sym, ◌∙◌, ap, ap₂, subst}
+use mathlib.Core.Path.{◌≡◌, sym, ◌∙◌, ap, ap₂}
 use mathlib.Core.List.{List, ◌++◌}
 use Prim.Native.Nat.{ℕ, ◌≤◌}
 use native.Mathlib.Omega.{arith}
 use lib.ListN.{length, drop}
-use lib.IntN.{ℤ, pos}
+use lib.IntN.{pos}
 use mir.Syntax.{w32}
 use mir.Val.{SFits, to_z}
 use mir.Facts.{to_z_pos}
@@ -16,16 +14,10 @@ use Rattle.basis.specs.declared.Divisor.{Divisor}
 use Rattle.reader.specs.Contract.{WriteAsked, Written, WriteAnswer}
 use Rattle.kind.specs.Kinds.{Known}
 use Rattle.reader.specs.Reading.{GivenOn}
-use Rattle.reader.specs.declared.DivisorAnswer.{DivisorAnswer}
-use Rattle.reader.specs.declared.DivisorAnswer.TheVariants as answer
 use Rattle.divisor.proofs.Codes.{size-most}
 use Rattle.record.proofs.Written.{length_bytes_of}
 use Rattle.calls.specs.Answer.{Gives}
 use Rattle.calls.specs.Call.{room}
-use Rattle.reply.specs.Written.{Writable, Wrote}
-
-pub known : (r : DivisorAnswer) {x : Divisor} → Writable r → r ≡ answer.Divisor x → Known x.kind
-known r h e = subst Writable e h
 
 module _ {x : Divisor} {out : List ℕ} (k : Known x.kind) where
   pub write_asked : room ≤ length out → WriteAsked x out
@@ -45,7 +37,3 @@ wrote {x} {out} {out'} {n} a c w g = (
 
     long : size g.kind ≡ length w
     long = sym (length_bytes_of g.kind x) ∙ ap length g.bytes
-
--- the answer as read of an enum
-pub wrote_answer : (out : List ℕ) (n : ℤ) (out' : List ℕ) (r s : DivisorAnswer) → r ≡ s → Wrote s out n out' → Wrote r out n out'
-wrote_answer out n out' r s e h = subst (λ (d : DivisorAnswer). Wrote d out n out') (sym e) h

@@ -1,33 +1,37 @@
-// What a call returns and writes: minus the number of a refusal, or the record of the divisor that was found and its length.
+// What a call returns and writes: minus the number of a refusal, or what was found; the record of the divisor that was found and its length.
 #![tactic(auto)]
 
 ghost use Rattle.std.specs.Prelude.{◌≡◌};
+ghost use Rattle.refusal.specs.Refusal.{number_of};
 ghost use Rattle.calls.specs.Answer.{minus};
-ghost use Rattle.reply.specs.Written.{Writable, Wrote};
+ghost use Rattle.reply.specs.Written.{Writable, Wrote, Returned};
 
-use reader::DivisorAnswer;
+use basis::Divisor;
+use refusal::Refusal;
 
-// What a call returns for the refusal n.
-pub fn refusal(n: u8) -> i32
-    ensures { result ≡ minus n }
+// What a call returns for a refusal.
+pub fn refusal(cause: Refusal) -> i32
+    ensures { result ≡ minus (number_of cause) }
 {
-    0 - (n as i32)
+    -i32::from(cause.number())
+}
+
+// What a call returns for a number that was found, and for what was refused.
+pub fn returned(found: Result<i32, Refusal>) -> i32
+    ensures { Returned found result }
+{
+    found.unwrap_or_else(refusal)
 }
 
 // Writes the record of a divisor that was found at the start of `out`, and returns its length; refuses a buffer that is too short, and what was
 // refused before.
-pub fn written(found: DivisorAnswer, out: &mut [u8]) -> i32
+pub fn written(found: Result<Divisor, Refusal>, out: &mut [u8]) -> i32
     requires { Writable found }
     ensures { Wrote found out.old result out.new }
 {
     match found {
-        DivisorAnswer::Divisor(x) => {
-            if out.len() < reader::ROOM {
-                return refusal(10);
-            }
-            let n = reader::write_divisor(x, out);
-            n as i32
-        }
-        DivisorAnswer::Refused(n) => refusal(n),
+        Ok(_) if out.len() < reader::ROOM => refusal(Refusal::Room),
+        Ok(x) => reader::write_divisor(x, out) as i32,
+        Err(cause) => refusal(cause),
     }
 }

@@ -1,0 +1,19 @@
+-- What is made of the two divisors is written.
+use Rattle.std.proofs.Common.{rules}
+use Rattle.calls.specs.Class.{IsCommonMultiple}
+use Rattle.classes.proofs.Values.{two-asked}
+use Rattle.reply.proofs.Found.{two-writable, two-writes}
+use Rattle.reply.proofs.Number.{kept}
+use Rattle.overlap.proofs.Results.{multiple_made}
+use Rattle.overlap.proofs.common_multiple.Goals as goal
+
+pub of_two-requires : goal.of_two-requires
+of_two-requires c = λ g x y o v u. two-asked o v u
+
+pub written-requires : goal.written-requires
+written-requires c = two-writable (IsCommonMultiple c.args.curve.now c.args.a.now c.args.b.now) (λ g x y r o v u p. multiple_made o v u (search rules)) _ c.of_two.ensures
+
+pub returns : goal.returns
+returns c =
+    rw (kept c.written.result c.written.type_inv)
+    (two-writes (IsCommonMultiple c.args.curve.now c.args.a.now c.args.b.now) (λ g x y r o v u p. multiple_made o v u (search rules)) _ c.of_two.ensures c.written.ensures)
