@@ -3,7 +3,7 @@
 --   cause-form                 a form that is not accepted
 --   found_8, found_15          a number of the value x is not below p; the filling is not zero
 --   basis_asked, found-no_basis, found-basis     the test of basis: what it requires, and the record is refused or accepted
-use mathlib.Core.Path.{◌≡◌}
+use mathlib.Core.Path.{◌≡◌, subst}
 use mathlib.Core.Bool.{Bool, true, false}
 use mathlib.Core.Logic.{inl}
 use mathlib.Core.List.{List}
@@ -20,8 +20,10 @@ use Rattle.basis.specs.Contract.{BasisAsked, BasisTest}
 use Rattle.record.specs.Cause.{FirstCause, Passes}
 use Rattle.record.proofs.Cause.{first_append}
 use Rattle.checks.specs.Contract.{AllBelow}
-use Rattle.short.specs.Short.{short_form, short_rest, short_stages}
-use Rattle.short_reader.specs.Reading.{ShortAsked, ValueOf, ShortValue, FillingZero, ShortRead}
+use Rattle.divisor.specs.Kind.{Kind}
+use Rattle.short.proofs.Accepted.{same-short}
+use Rattle.short.specs.Short.{OfShort, short_form, short_rest, short_stages}
+use Rattle.short_reader.specs.Reading.{ShortAsked, ValueOf, FillingZero, ShortRead}
 use Rattle.short_reader.proofs.ShortReader.{refused_8, refused_15, refused_9, value-shaped, given}
 
 module _ {g : Ground} (G : Grounded g) where
@@ -40,9 +42,9 @@ module _ {g : Ground} (G : Grounded g) where
   pub cause-form : (s : List ℕ) (n : ℕ) → FirstCause (short_form g.p s) n → FirstCause (short_stages g.p C s) n
   cause-form s n f = (first_append (short_form g.p s) (short_rest g.p C s) n).1 (inl f)
 
-  module _ (s : List ℕ) (x : Divisor) (form : Passes (short_form g.p s)) (v : ShortValue g.p s x) where
+  module _ (s : List ℕ) (x : Divisor) (form : Passes (short_form g.p s)) {κ : Kind} (stands : OfShort s κ) (v : ValueOf g.p s κ x) where
     value : ValueOf g.p s form.1.0.0 x
-    value = v form.1.0.0 form.1.0.1
+    value = subst (λ (ν : Kind). ValueOf g.p s ν x) (same-short s κ form.1.0.0 stands form.1.0.1) v
 
     pub found_8 : ¬ AllBelow g.p (numbers_of x) → FirstCause (short_stages g.p C s) 8
     found_8 n = refused_8 g.p C s form x value positive n

@@ -1,8 +1,8 @@
 -- What the functions that read short records require and ensure.
+--   FormRead p s r         short_form: the kind for which s stands, whose form is accepted; or the first cause
 --   ShortAsked p s         p is not 0, and the form of s is accepted
 --   Number w c s i n       n is the i-th of the c numbers of w bits of s; 0 past them
 --   ValueOf p s κ r        r has the kind κ and the numbers of s, 0 past them
---   ShortValue p s r       … the kind for which s stands
 --   FillingZero p s        the filling of s is zero
 --   ShortRead p C s a      read_short: an accepted short record, and by value the divisor of which it is the short form; or the first cause
 use Rattle.std.specs.Prelude.{◌≡◌, List, ℕ, ◌<◌, ◌≤◌, get_or, Result, Ok, Err}
@@ -19,6 +19,10 @@ use Rattle.record.specs.Cause.{FirstCause, Passes}
 use Rattle.reader.specs.Reading.{DivisorGiven}
 use Rattle.short.specs.Short.{width, OfShort, body, short_numbers, ZeroFilling, short_form, short_stages, AcceptedShort}
 
+abbrev pub FormRead : ℕ → List ℕ → Result Kind Refusal → Type 0
+FormRead p s (Ok κ) = Passes (short_form p s) × OfShort s κ
+FormRead p s (Err e) = FirstCause (short_form p s) (number_of e)
+
 pub record ShortAsked (p : ℕ) (s : List ℕ) : Type 0 where
   pub positive : 0 < p
   pub form : Passes (short_form p s)
@@ -28,11 +32,8 @@ pub record Number (w c : ℕ) (s : List ℕ) (i n : ℕ) : Type 0 where
   pub past : c ≤ i → n ≡ 0
 
 pub record ValueOf (p : ℕ) (s : List ℕ) (κ : Kind) (r : Divisor) : Type 0 where
-  pub kind : r.kind ≡ code κ
+  pub kind : r.kind ≡ κ
   pub number : (i : ℕ) → i < 9 → Number (width p) (count κ) s i (get_or (numbers_of r) i 0)
-
-abbrev pub ShortValue : ℕ → List ℕ → Divisor → Type 0
-ShortValue p s r = (κ : Kind) → OfShort s κ → ValueOf p s κ r
 
 abbrev pub FillingZero : ℕ → List ℕ → Type 0
 FillingZero p s = (κ : Kind) → OfShort s κ → ZeroFilling p κ s

@@ -4,18 +4,18 @@
 ghost use Rattle.std.specs.Prelude.{◌<◌, ◌≤◌};
 ghost use Rattle.algebra.specs.Answers.{Answers};
 ghost use Rattle.ground.specs.Ground.{Grounded, AtGround};
-ghost use Rattle.form.specs.Contract.{Checked};
-ghost use Rattle.short.specs.Short.{short_form};
-ghost use Rattle.short_reader.specs.Reading.{ShortAsked, Number, ShortValue, FillingZero, ShortRead};
+ghost use Rattle.short.specs.Short.{OfShort};
+ghost use Rattle.short_reader.specs.Reading.{FormRead, ShortAsked, Number, ValueOf, FillingZero, ShortRead};
 
 use basis::Divisor;
 use ground::Ground;
+use kind::Kind;
 use refusal::Refusal;
 
-// Has a short record its size, its kind and its kind's length?
-fn short_form(p: u32, s: &[u8]) -> Result<(), Refusal>
+// The kind for which a short record stands that has its size, a kind and its kind's length.
+fn short_form(p: u32, s: &[u8]) -> Result<Kind, Refusal>
     requires { 0 < p }
-    ensures { Checked (short_form p s.now) result }
+    ensures { FormRead p s.now result }
 {
     if !form::sized(s) {
         return Err(Refusal::DivisorSize);
@@ -25,15 +25,15 @@ fn short_form(p: u32, s: &[u8]) -> Result<(), Refusal>
         return Err(Refusal::DivisorKind);
     }
     let old = code - 100;
-    if !kind::is_kind(old) {
+    let Ok(kind) = Kind::try_from(old) else {
         return Err(Refusal::DivisorKind);
-    }
+    };
     let w = packing::bit_length(p - 1) as usize;
-    let size = 4 + (w * kind::count_of(old) + 7) / 8;
+    let size = 4 + (w * kind.count() + 7) / 8;
     if s.len() != size {
         return Err(Refusal::DivisorSize);
     }
-    Ok(())
+    Ok(kind)
 }
 
 // The i-th of `count` numbers of w bits; 0 past them.
@@ -49,13 +49,12 @@ fn number(s: &[u8], w: u32, count: usize, i: usize) -> u32
     0
 }
 
-// The divisor by value for which a short record stands.
-fn value(p: u32, s: &[u8]) -> Divisor
-    requires { ShortAsked p s.now }
-    ensures { ShortValue p s.now result }
+// The divisor of a kind with the numbers of a short record.
+fn value(p: u32, kind: Kind, s: &[u8]) -> Divisor
+    requires { 0 < p }
+    ensures { ValueOf p s.now kind result }
 {
-    let kind = layout::read_u16(s, 2) - 100;
-    let count = kind::count_of(kind);
+    let count = kind.count();
     let w = packing::bit_length(p - 1);
     Divisor {
         kind,
@@ -71,14 +70,14 @@ fn value(p: u32, s: &[u8]) -> Divisor
     }
 }
 
-// Are the bits behind the last number zero?
-fn filling_zero(p: u32, s: &[u8]) -> bool
-    requires { ShortAsked p s.now }
+// Are the bits behind the last number zero? The record stands for one of the kind.
+fn filling_zero(p: u32, kind: Kind, s: &[u8]) -> bool
+    requires asked { ShortAsked p s.now }
+    requires of_kind { OfShort s.now kind }
     ensures { Answers (FillingZero p s.now) result }
 {
-    let kind = layout::read_u16(s, 2) - 100;
     let w = packing::bit_length(p - 1) as usize;
-    let from = 32 + w * kind::count_of(kind);
+    let from = 32 + w * kind.count();
     unpacking::read_bits(s, from, 8) == 0
 }
 
@@ -87,12 +86,12 @@ pub fn read_short(g: Ground, s: &[u8]) -> Result<Divisor, Refusal>
     requires { Grounded g }
     ensures { AtGround g (λ p C. ShortRead p C s.now result) }
 {
-    short_form(g.p, s)?;
-    let x = value(g.p, s);
+    let kind = short_form(g.p, s)?;
+    let x = value(g.p, kind, s);
     if !checks::all_below(g.p, x) {
         return Err(Refusal::Number);
     }
-    if !filling_zero(g.p, s) {
+    if !filling_zero(g.p, kind, s) {
         return Err(Refusal::Filling);
     }
     if !basis::is_basis(g.p, &g.cube, x) {

@@ -1,16 +1,16 @@
 -- Each number is read at its place.
+use mathlib.Core.Path.{refl}
 use Rattle.checks.proofs.Answer.{nine}
-use Rattle.short_reader.proofs.ShortReader.{old-kind, number-moved}
+use Rattle.short_reader.proofs.ShortReader.{number-moved}
 use Rattle.short_reader.proofs.value.Goals as goal
 
 pub returns : goal.returns
-returns c κ e =
+returns c =
     let s = c.args.s.now in
-    let old = old-kind _ κ _ c.read_u16-kind.ensures.is e in
     let w = c.bit_length-w.ensures.is in
-    let m = c.count_of-count.ensures.is κ old in
+    let m = c.count-count.ensures.is in
     record {
-      kind = old;
+      kind = refl;
       number =
           nine
           _
