@@ -42,11 +42,8 @@ pub fn residues(s: &[u8], p: u32) -> [u32; 9]
     ensures { Residues s.now p result }
 {
     let mut r = [0u32; 9];
-    let mut i = 0;
-    while i < 9 {
-        let residue = denominator(s, i, p);
-        r[i] = residue;
-        i += 1;
+    for i in 0..9 {
+        r[i] = denominator(s, i, p);
     }
     r
 }
@@ -57,11 +54,8 @@ pub fn products(p: u32, d: [u32; 9]) -> [u32; 10]
     ensures { Products p d result }
 {
     let mut r = [1u32; 10];
-    let mut i = 0;
-    while i < 9 {
-        let product = field::mul(p, r[i], d[i]);
-        r[i + 1] = product;
-        i += 1;
+    for i in 0..9 {
+        r[i + 1] = field::mul(p, r[i], d[i]);
     }
     r
 }
@@ -74,9 +68,7 @@ pub fn quotients(s: &[u8], p: u32, d: [u32; 9], before: [u32; 10]) -> [u32; 9]
 {
     let mut r = [0u32; 9];
     let mut unit = inversion::inverse(p, before[9]);
-    let mut i = 9;
-    while 0 < i {
-        i -= 1;
+    for i in (0..9).rev() {
         let n = numerator(s, i, p);
         let inverse = field::mul(p, before[i], unit);
         let quotient = field::mul(p, n, inverse);

@@ -1,5 +1,4 @@
 -- What the reader of a short record finds.
 pub mod Places
 pub mod ShortReader
-pub mod Record
 pub mod Grounds

@@ -4,7 +4,7 @@
 --   body_below         the body is as long as its bytes
 --   filling-bits       the filling by its bits
 --   filling-holds, filling-fails     these are 0 exactly if the filling is zero
---   filling-yes, filling-no          … as filling_zero reads them
+--   filling-yes, filling-no, filling-answer      … as filling_zero reads them
 use mathlib.Core.Path.{◌≡◌, sym, ap, ap₂, ◌∙◌}
 use mathlib.Core.List.{List}
 use Prim.Native.Nat.{ℕ, ◌+◌, ◌*◌, ◌/◌, ◌%◌, ◌^◌, ◌<◌}
@@ -12,6 +12,8 @@ use native.Mathlib.Nat.{div-eq_of_lt, div-lt_iff_lt-mul, mod-eq_of_lt, lt_of_lt_
 use native.Mathlib.Omega.{arith}
 use lib.ListN.{length, get_or, drop, length-drop}
 use lib.Pow.{pow_pos, pow_mono, shr-shr, shr_lt}
+use Rattle.std.specs.Prelude.{nat_eq}
+use Rattle.algebra.specs.Answers.{Answers}
 use Rattle.divisor.specs.Kind.{Kind, count}
 use Rattle.layout.specs.Layout.{Bytes}
 use Rattle.layout.proofs.Bytes.{bytes_drop}
@@ -58,3 +60,6 @@ module _ (p : ℕ) (s : List ℕ) (b : Bytes s) (form : Passes (short_form p s))
       let κ = form.1.0.0 in
       let e = form.1.0.1 in
       n (read_at κ e ∙ filling-fails s b (width p) (count κ) (form.1.1.0 κ e) (f κ e))
+
+  pub filling-answer : Answers (FillingZero p s) (nat_eq rest 0)
+  filling-answer = record { holds = λ e. filling-yes (grind arith); fails = λ e. filling-no (grind arith) }

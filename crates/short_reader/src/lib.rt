@@ -4,37 +4,36 @@
 ghost use Rattle.std.specs.Prelude.{◌<◌, ◌≤◌};
 ghost use Rattle.algebra.specs.Answers.{Answers};
 ghost use Rattle.ground.specs.Ground.{Grounded, AtGround};
-ghost use Rattle.form.specs.Contract.{Checked};
-ghost use Rattle.short.specs.Short.{OfShort, short_form};
-ghost use Rattle.short_reader.specs.Reading.{ShortAsked, Number, ValueOf, FillingZero, ValueRead, ShortRead};
+ghost use Rattle.short.specs.Short.{OfShort};
+ghost use Rattle.short_reader.specs.Reading.{FormRead, ShortAsked, Number, ValueOf, FillingZero, ShortRead};
 
 use basis::Divisor;
 use ground::Ground;
 use kind::Kind;
-use reader::DivisorAnswer;
+use refusal::Refusal;
 
-// The refusal of a short record for its size, its kind or its kind's length; 0 for none.
-fn short_form(p: u32, s: &[u8]) -> u8
+// The kind for which a short record stands that has its size, a kind and its kind's length.
+fn short_form(p: u32, s: &[u8]) -> Result<Kind, Refusal>
     requires { 0 < p }
-    ensures { Checked (short_form p s.now) result }
+    ensures { FormRead p s.now result }
 {
     if !form::sized(s) {
-        return 6;
+        return Err(Refusal::DivisorSize);
     }
     let code = layout::read_u16(s, 2);
     if code < 100 {
-        return 7;
+        return Err(Refusal::DivisorKind);
     }
     let old = code - 100;
     let Ok(kind) = Kind::try_from(old) else {
-        return 7;
+        return Err(Refusal::DivisorKind);
     };
     let w = packing::bit_length(p - 1) as usize;
     let size = 4 + (w * kind.count() + 7) / 8;
     if s.len() != size {
-        return 6;
+        return Err(Refusal::DivisorSize);
     }
-    0
+    Ok(kind)
 }
 
 // The i-th of `count` numbers of w bits; 0 past them.
@@ -79,53 +78,24 @@ fn filling_zero(p: u32, kind: Kind, s: &[u8]) -> bool
 {
     let w = packing::bit_length(p - 1) as usize;
     let from = 32 + w * kind.count();
-    let rest = unpacking::read_bits(s, from, 8);
-    if rest != 0 {
-        return false;
-    }
-    true
-}
-
-// A divisor by value on the curve of g: accepted or refused as its record is.
-fn read_value(g: Ground, x: Divisor) -> DivisorAnswer
-    requires { Grounded g }
-    ensures { AtGround g (λ p C. ValueRead p C x result) }
-{
-    let mut bytes = [0u8; 40];
-    let n = reader::write_divisor(x, &mut bytes);
-    reader::read_divisor(g, &bytes[0..n])
+    unpacking::read_bits(s, from, 8) == 0
 }
 
 // A short record on the curve of g: accepted or refused.
-pub fn read_short(g: Ground, s: &[u8]) -> DivisorAnswer
+pub fn read_short(g: Ground, s: &[u8]) -> Result<Divisor, Refusal>
     requires { Grounded g }
     ensures { AtGround g (λ p C. ShortRead p C s.now result) }
 {
-    let form = short_form(g.p, s);
-    if form != 0 {
-        return DivisorAnswer::Refused(form);
-    }
-    let Ok(kind) = Kind::try_from(layout::read_u16(s, 2) - 100) else {
-        return DivisorAnswer::Refused(7);
-    };
+    let kind = short_form(g.p, s)?;
     let x = value(g.p, kind, s);
-    let zero = filling_zero(g.p, kind, s);
-    let read = read_value(g, x);
-    match read {
-        DivisorAnswer::Divisor(r) => {
-            if zero {
-                return DivisorAnswer::Divisor(r);
-            }
-            DivisorAnswer::Refused(15)
-        }
-        DivisorAnswer::Refused(n) => {
-            if n == 8 {
-                return DivisorAnswer::Refused(8);
-            }
-            if !zero {
-                return DivisorAnswer::Refused(15);
-            }
-            DivisorAnswer::Refused(n)
-        }
+    if !checks::all_below(g.p, x) {
+        return Err(Refusal::Number);
     }
+    if !filling_zero(g.p, kind, s) {
+        return Err(Refusal::Filling);
+    }
+    if !basis::is_basis(g.p, &g.cube, x) {
+        return Err(Refusal::NoBasis);
+    }
+    Ok(x)
 }

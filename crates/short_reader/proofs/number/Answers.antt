@@ -24,6 +24,6 @@ pub returns-then-i-count : goal.returns-then-i-count
 returns-then-i-count c =
     let a = c.args in
     record {
-      is = λ l. c.read_bits.ensures ∙ number-bits a.s.now (λ i. omega (arith, c.shared_slice_known-1.given i)) a.w a.count a.i l;
+      is = λ l. c.read_bits.ensures ∙ number-bits a.s.now (λ i. omega (arith, c.type_inv.s i)) a.w a.count a.i l;
       past = λ l. absurd (omega (arith, l, c.if-i-count.true));
     }

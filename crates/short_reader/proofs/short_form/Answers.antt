@@ -6,12 +6,11 @@ use native.Mathlib.Nat.{mul-le-mul}
 use native.Mathlib.Omega.{arith}
 use Rattle.divisor.specs.Kind.{count}
 use Rattle.short.proofs.Accepted.{same-short}
-use Rattle.form.proofs.Answer.{checked_none, checked_cause}
 use Rattle.short_reader.proofs.ShortReader.{old-kind, short-kind}
 use Rattle.short_reader.proofs.short_form.Goals as goal
 
 pub returns-then-not-sized : goal.returns-then-not-sized
-returns-then-not-sized c = checked_cause 6 (omega arith) (inl (c.sized.ensures.fails c.if-not-sized.true, refl))
+returns-then-not-sized c = (inl (c.sized.ensures.fails c.if-not-sized.true, refl))
 
 pub read_u16-code-requires : goal.read_u16-code-requires
 read_u16-code-requires c = omega (arith, c.sized.ensures.holds c.if-not-sized.false)
@@ -19,14 +18,14 @@ read_u16-code-requires c = omega (arith, c.sized.ensures.holds c.if-not-sized.fa
 pub returns-then-code-lt100 : goal.returns-then-code-lt100
 returns-then-code-lt100 c =
     let h = c.sized.ensures.holds c.if-not-sized.false in
-    checked_cause 7 (omega arith) (inr (h, inl (λ k. omega (arith, c.read_u16-code.ensures.is, k.1, c.if-code-lt100.true), refl)))
+    (inr (h, inl (λ k. omega (arith, c.read_u16-code.ensures.is, k.1, c.if-code-lt100.true), refl)))
 
 pub returns-in_default : goal.returns-in_default
 returns-in_default c =
     let h = c.sized.ensures.holds c.if-not-sized.false in
     let e = c.read_u16-code.ensures.is in
     let unknown = c.in_default.ensures.1 in
-    checked_cause 7 (omega arith) (inr (h, inl (λ k. unknown (k.0, old-kind _ k.0 _ e k.1), refl)))
+    (inr (h, inl (λ k. unknown (k.0, old-kind _ k.0 _ e k.1), refl)))
 
 pub overflow_mul-size : goal.overflow_mul-size
 overflow_mul-size c = omega (arith, mul-le-mul c.bit_length-w.ensures.small c.count.ensures.small)
@@ -43,9 +42,6 @@ returns-then-s-size c =
     let κ = c.in-Ok.kind in
     let e = short-kind _ κ _ c.read_u16-code.ensures.is c.if-code-lt100.false c.in-Ok.ensures in
     let w = c.bit_length-w.ensures.is in
-    checked_cause
-    6
-    (omega arith)
     (inr (
       h,
       inr (
@@ -60,15 +56,18 @@ returns c =
     let κ = c.in-Ok.kind in
     let e = short-kind _ κ _ c.read_u16-code.ensures.is c.if-code-lt100.false c.in-Ok.ensures in
     let w = c.bit_length-w.ensures.is in
-    checked_none (
-      h,
+    (
       (
-        (κ, e),
+        h,
         (
-          λ κ' q.
-              c.if-s-size.false
-              ∙ ap₂ (λ (a b : ℕ). 4 + (a * b + 7) / 8) w (c.count.ensures.is ∙ ap count (same-short c.args.s.now κ κ' e q)),
-          tt,
+          (κ, e),
+          (
+            λ κ' q.
+                c.if-s-size.false
+                ∙ ap₂ (λ (a b : ℕ). 4 + (a * b + 7) / 8) w (c.count.ensures.is ∙ ap count (same-short c.args.s.now κ κ' e q)),
+            tt,
+          ),
         ),
       ),
+      e,
     )
