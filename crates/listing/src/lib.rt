@@ -5,22 +5,20 @@ ghost use Rattle.listing.specs.Contract.{StandsAsked, Stands, PutAsked, Put, Lis
 
 use basis::Divisor;
 use ground::Ground;
-use reader::DivisorAnswer;
 
 // How often the pair (a, b) stands in the divisor with the triple (t, d): 0 where it is no point.
 fn stands(g: Ground, r: Divisor, t: &[[u32; 26]; 3], d: &[usize; 3], a: u32, b: u32) -> usize
     requires { StandsAsked g r t.now d.now }
     ensures { Stands g r a b result }
 {
-    let read = pair::read_pair(g, a, b);
-    match read {
-        DivisorAnswer::Divisor(x) => {
+    match pair::read_pair(g, a, b) {
+        Ok(x) => {
             let mut u = [[0u32; 26]; 3];
             let mut e = [0usize; 3];
             basis::triple_of(x, &mut u, &mut e);
             multiplicity::multiplicity(g.p, &g.cube, t, d, &u, &e)
         }
-        DivisorAnswer::Refused(_) => 0,
+        Err(_) => 0,
     }
 }
 
