@@ -5,7 +5,6 @@ ghost use Rattle.listing.specs.Contract.{StandsAsked, Stands, PutAsked, Put, Lis
 
 use basis::Divisor;
 use ground::Ground;
-use reader::DivisorAnswer;
 use triple::Triple;
 
 // How often the pair (a, b) stands in the divisor with the triple t: 0 where it is no point.
@@ -13,13 +12,12 @@ fn stands(g: Ground, r: Divisor, t: &Triple, a: u32, b: u32) -> usize
     requires { StandsAsked g r t.now.rows t.now.degrees }
     ensures { Stands g r a b result }
 {
-    let read = pair::read_pair(g, a, b);
-    match read {
-        DivisorAnswer::Divisor(x) => {
+    match pair::read_pair(g, a, b) {
+        Ok(x) => {
             let u = basis::triple_of(x);
             multiplicity::multiplicity(g.p, &g.cube, t, &u)
         }
-        DivisorAnswer::Refused(_) => 0,
+        Err(_) => 0,
     }
 }
 

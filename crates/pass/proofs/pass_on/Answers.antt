@@ -1,20 +1,10 @@
--- The length first, and then the records.
-use mathlib.Core.Path.{refl}
-use mathlib.Core.Logic.{inl}
-use native.Mathlib.Omega.{arith}
-use mathlib.Core.List.{[], ◌∷◌}
-use lib.ListN.{length}
-use Prim.Native.Nat.{◌≤◌}
-use Rattle.record.specs.Cause.{must}
-use Rattle.record.specs.Curve.{modulus, equation}
-use Rattle.record.specs.Listed.{list_stage, list_limit}
-use Rattle.pass.proofs.Records.{pass_next}
+-- Each step takes the next record.
+use Rattle.std.proofs.Common.{rules}
+use Rattle.pass.proofs.Records.{with_asked, found-pass}
 use Rattle.pass.proofs.pass_on.Goals as goal
 
-pub returns-then-list-gt-LIST_LIMIT : goal.returns-then-list-gt-LIST_LIMIT
-returns-then-list-gt-LIST_LIMIT c k o = inl (λ h. omega (arith, c.if-list-gt-LIST_LIMIT.true), refl)
+pub fold_records-requires-clause-callable : goal.fold_records-requires-clause-callable
+fold_records-requires-clause-callable c p x h = with_asked (λ p q x m. search rules) c.none.ensures.sum c.none.ensures.tallies c.requires h
 
 pub returns : goal.returns
-returns c k o =
-    let s = c.args.list.now in
-    pass_next k (must 11 (length s ≤ list_limit)) (list_stage (modulus k) (equation k) s ∷ []) c.if-list-gt-LIST_LIMIT.false s c.pass.result (c.pass.ensures k o)
+returns c = found-pass (λ p q x m. search rules) c.none.ensures.sum c.none.ensures.tallies _ _ c.fold_records.ensures
