@@ -1,8 +1,8 @@
 // The tallies of the records of a list by value: how many there are of each kind, how many are typical, how many in all.
 #![tactic(auto)]
 
-ghost use Rattle.std.specs.Prelude.{[], ◌<◌, eqb};
-ghost use Rattle.tallies.specs.Tallied.{TalliesOf, Bounded, OneIf, TypicalTest, AddedTo};
+ghost use Rattle.std.specs.Prelude.{[], ◌<◌};
+ghost use Rattle.tallies.specs.Tallied.{TalliesOf, Bounded, TypicalTest, AddedTo};
 
 use basis::Divisor;
 
@@ -40,23 +40,6 @@ fn typical(x: Divisor) -> bool
     x.kind == 31 && x.n2 != 0
 }
 
-// 1 for true, 0 for false.
-fn one_if(b: bool) -> u32
-    ensures { OneIf b result }
-{
-    if b {
-        return 1;
-    }
-    0
-}
-
-// 1 for a divisor of the kind, 0 for another.
-fn of_kind(x: Divisor, kind: u32) -> u32
-    ensures { OneIf (eqb x.kind kind) result }
-{
-    one_if(x.kind == kind)
-}
-
 // The tallies with one record more, that of x.
 pub fn add(t: Tallies, x: Divisor) -> Tallies
     requires bounded { Bounded t }
@@ -64,12 +47,12 @@ pub fn add(t: Tallies, x: Divisor) -> Tallies
     ensures { AddedTo t x result }
 {
     Tallies {
-        n0: t.n0 + of_kind(x, 0),
-        n11: t.n11 + of_kind(x, 11),
-        n21: t.n21 + of_kind(x, 21),
-        n22: t.n22 + of_kind(x, 22),
-        n31: t.n31 + of_kind(x, 31),
-        typical: t.typical + one_if(typical(x)),
+        n0: t.n0 + u32::from(x.kind == 0),
+        n11: t.n11 + u32::from(x.kind == 11),
+        n21: t.n21 + u32::from(x.kind == 21),
+        n22: t.n22 + u32::from(x.kind == 22),
+        n31: t.n31 + u32::from(x.kind == 31),
+        typical: t.typical + u32::from(typical(x)),
         total: t.total + 1,
     }
 }

