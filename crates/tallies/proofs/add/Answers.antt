@@ -1,7 +1,10 @@
-use Rattle.std.proofs.Common.{rules, [], ◌<◌, ◌≡◌, ℕ, ◌+◌, ◌-◌, ◌*◌, ◌≤◌, length, ◌/◌, ◌%◌, Bool, true, false, nat_eq, nat_lt, List, ◌∷◌, ◌++◌, slice_index_or, slice_set, bit_and, bit_or, Fits, w8, w32, w64, Bor, MutBor}
-use Rattle.tallies.specs.Tallied.{TalliesOf, Bounded, TypicalTest, AddedTo}
+-- `tallies::add` meets its contract: each test counts as one record if it holds.
+use Rattle.tallies.proofs.More.{tallies-more}
 use Rattle.tallies.proofs.add.Goals as goal
 
--- src/lib.rt:44:1
 pub returns : goal.returns
-returns c = ?
+returns c =
+    let a = c.args in
+    tallies-more a.t a.x c.typical.result c.typical.ensures
+    c.from.ensures c.from-2.ensures c.from-3.ensures
+    c.from-4.ensures c.from-5.ensures c.from-6.ensures
