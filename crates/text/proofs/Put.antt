@@ -1,9 +1,10 @@
 -- Bytes put into a buffer one after the other.
 --   put_nothing      nothing put
 --   put_then         a text and then another, behind it, are the two together
-use mathlib.Core.Path.{refl, sym, ap, ◌∙◌}
+--   put_length       how many bytes are put then
+use mathlib.Core.Path.{◌≡◌, refl, sym, ap, ◌∙◌}
 use mathlib.Core.List.{List, [], ◌++◌, append_assoc, append-nil}
-use Prim.Native.Nat.{ℕ}
+use Prim.Native.Nat.{ℕ, ◌+◌}
 use native.Mathlib.Omega.{arith}
 use lib.ListN.{length, drop, length-append}
 use lib.Seq.{drop-drop}
@@ -21,3 +22,6 @@ put_then {s} {s'} {s''} {text} {more} p q =
       rest = q.rest ∙ ap (drop (length more)) p.rest ∙ drop-drop (length more) (length text) s.free ∙ ap (λ (k : ℕ). drop k s.free) (sym both);
       left = omega (arith, p.left, q.left, both);
     }
+
+pub put_length : {s s' : Written} {text : List ℕ} → Put s text s' → length s'.bytes ≡ length s.bytes + length text
+put_length {s} {s'} {text} p = ap length p.is ∙ length-append s.bytes text

@@ -64,7 +64,7 @@ impl<'a> Text<'a> {
     // One digit.
     fn push_digit(&mut self, d: u32)
         requires d_bound { d < 10 }
-        requires room { 1 ≤ length self.old.free }
+        requires free_bound { 1 ≤ length self.old.free }
         ensures { Put self.old (digit d ∷ []) self.new }
     {
         self.push_byte((48 + d) as u8);
@@ -73,7 +73,7 @@ impl<'a> Text<'a> {
     // A number below 100 in two digits.
     pub fn push_two_digits(&mut self, n: u32)
         requires n_bound { n < 100 }
-        requires room { 2 ≤ length self.old.free }
+        requires free_bound { 2 ≤ length self.old.free }
         ensures { Put self.old (two_digits n) self.new }
     {
         self.push_digit(n / 10);
