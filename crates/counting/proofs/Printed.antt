@@ -7,11 +7,13 @@
 use mathlib.Core.Path.{◌≡◌, refl, sym, ap, ◌∙◌, subst}
 use mathlib.Core.Logic.{inl, inr}
 use mathlib.Core.List.{List, ◌++◌}
-use Prim.Native.Nat.{ℕ, ◌≤◌}
+use Prim.Native.Nat.{ℕ, ◌+◌, ◌≤◌}
 use native.Mathlib.Omega.{arith}
 use lib.ListN.{length, take, length-take}
 use lib.Seq.{take_at}
+use Rattle.text.specs.Written.{Written}
 use Rattle.text.specs.Put.{Put, Placed}
+use Rattle.text.proofs.Put.{put_length}
 use Rattle.divisor.specs.Kind.{Kind, code}
 use Rattle.basis.specs.declared.Divisor.{Divisor}
 use Rattle.record.specs.Cause.{Stage, FirstCause, Passes}
@@ -65,36 +67,37 @@ module _ {x : Divisor} {out out' : List ℕ} {n : ℕ} (a : WriteAnswer x out ou
         is = λ c w v. bytes_taken v.kind v.based.shaped.kind ∙ v.bytes;
       }
 
-module _ {p : PassAnswer} {out out' : List ℕ} {r : ℕ} where
-  pub all_put : {x : Divisor} {t : Tallies} {n : ℕ} {sum : List ℕ} → p ≡ answer.All x t → Taken x n sum → AllPut t (take n sum) out r out'
-      → PassPut p out r out'
+module _ {p : PassAnswer} {s s' : Written} where
+  pub all_put : {x : Divisor} {t : Tallies} {n : ℕ} {sum : List ℕ} → p ≡ answer.All x t → Taken x n sum → AllPut t (take n sum) s s' → PassPut p s s'
   all_put {x} {t} e k h =
-      subst (λ (d : PassAnswer). PassPut d out r out') (sym e)
+      subst (λ (d : PassAnswer). PassPut d s s') (sym e)
       (record {
-        put = λ c w v rs z. subst (λ (u : List ℕ). Put out 0 (lines rs u) r out') (k.is c w v) (h.put rs z);
+        put = λ c w v rs z. subst (λ (u : List ℕ). Put s (lines rs u) s') (k.is c w v) (h.put rs z);
         short = h.short;
       })
 
-  pub refused-put : {n : ℕ} → p ≡ answer.Refused n → Placed out 0 (refused_line n) 19 r out' → PassPut p out r out'
-  refused-put e h = subst (λ (d : PassAnswer). PassPut d out r out') (sym e) (record { put = h.put; short = omega (arith, h.within) })
+  pub refused-put : {n : ℕ} → p ≡ answer.Refused n → Placed s (refused_line n) 19 s' → PassPut p s s'
+  refused-put e h = subst (λ (d : PassAnswer). PassPut d s s') (sym e) (record { put = h.put; short = omega (arith, h.within, put_length h.put) })
 
-module _ (c s : List ℕ) {out out' : List ℕ} {r : ℕ} where
-  printed-refused : (n : ℕ) → FirstCause (curve_stages c ++ list_of c s) n → Put out 0 (refused_line n) r out' → r ≤ longest → PrintedOn c s out r out'
-  printed-refused n f h l = record { text = refused_line n; report = refused n f refl; put = h; short = l }
+module _ (c l : List ℕ) {s s' : Written} where
+  printed-refused : (n : ℕ) → FirstCause (curve_stages c ++ list_of c l) n → Put s (refused_line n) s' → length s'.bytes ≤ length s.bytes + longest
+      → PrintedOn c l s s'
+  printed-refused n f h most = record { text = refused_line n; report = refused n f refl; put = h; short = most }
 
-  pub printed-found : (p : PassAnswer) → Passes (curve_stages c) → PassFound c (list_of c s) s p → PassPut p out r out' → PrintedOn c s out r out'
+  pub printed-found : (p : PassAnswer) → Passes (curve_stages c) → PassFound c (list_of c l) l p → PassPut p s s' → PrintedOn c l s s'
   printed-found (answer.All x t) ok f h =
       let rs = f.1.0 in
       let z = f.1.2 in
       let w = z.sum.0 in
       record {
         text = lines rs w;
-        report = counted rs w ((passes_append (curve_stages c) (list_of c s)).1 (ok, f.0)) f.1.1 z.sum.1 refl;
+        report = counted rs w ((passes_append (curve_stages c) (list_of c l)).1 (ok, f.0)) f.1.1 z.sum.1 refl;
         put = h.put c w z.sum.2 rs z.tallies;
         short = h.short;
       }
   printed-found (answer.Refused n) ok f h =
-      printed-refused n ((first_append (curve_stages c) (list_of c s) n).1 (inr (ok, f))) h.put h.short
+      printed-refused n ((first_append (curve_stages c) (list_of c l) n).1 (inr (ok, f))) h.put h.short
 
-  pub printed-cause : {n : ℕ} → FirstCause (curve_stages c) n → Placed out 0 (refused_line n) 19 r out' → PrintedOn c s out r out'
-  printed-cause {n} f h = printed-refused n ((first_append (curve_stages c) (list_of c s) n).1 (inl f)) h.put (omega (arith, h.within))
+  pub printed-cause : {n : ℕ} → FirstCause (curve_stages c) n → Placed s (refused_line n) 19 s' → PrintedOn c l s s'
+  printed-cause {n} f h =
+      printed-refused n ((first_append (curve_stages c) (list_of c l) n).1 (inl f)) h.put (omega (arith, h.within, put_length h.put))
