@@ -61,7 +61,8 @@ pub fn report<'a>(input: &[u8], out: &'a mut [u8]) -> &'a mut [u8]
 }
 
 // All that is printed for the standard input, of which the first n bytes of the buffer `read` were read; put and returned as by `report`.
-// The buffer has to have room for one byte more than the longest list: a list that is too long is then known by what was read.
+// The buffer and not only what was read is asked for, as the contract speaks of its length: it has to have room for one byte more than the
+// longest list, so that a list that is too long is known by what was read.
 pub fn report_read<'a>(read: &[u8], n: usize, out: &'a mut [u8]) -> &'a mut [u8]
     requires enough_in_bounds { enough ≤ length read.now }
     requires n_in_bounds { n ≤ length read.now }
