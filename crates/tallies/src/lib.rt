@@ -7,7 +7,7 @@ ghost use Rattle.tallies.specs.Tallied.{TalliesOf, Bounded, TypicalTest, AddedTo
 use basis::Divisor;
 
 // How many records of a list have each of the five kinds, how many are typical, and how many there are.
-#[derive(Clone, Copy)]
+#[derive(Clone, Copy, Default)]
 pub struct Tallies {
     pub n0: u32,
     pub n11: u32,
@@ -22,15 +22,7 @@ pub struct Tallies {
 pub fn no_records() -> Tallies
     ensures { TalliesOf [] result }
 {
-    Tallies {
-        n0: 0,
-        n11: 0,
-        n21: 0,
-        n22: 0,
-        n31: 0,
-        typical: 0,
-        total: 0,
-    }
+    Tallies::default()
 }
 
 // Is the record of this divisor typical? Its third number is f2.
