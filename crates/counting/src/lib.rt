@@ -1,8 +1,7 @@
 // The counting program: the report on an input, put into a lent buffer; crate report, specs/Report.antt, says what that is.
 #![tactic(auto)]
 
-ghost use Rattle.std.specs.Prelude.{◌≡◌, ◌≤◌, min, length};
-ghost use Rattle.record.specs.Curve.{curve_size};
+ghost use Rattle.std.specs.Prelude.{◌≤◌, length};
 ghost use Rattle.report.specs.Report.{Report};
 ghost use Rattle.report.specs.Input.{enough, ReportsRead};
 ghost use Rattle.printing.specs.Contract.{longest};
@@ -10,6 +9,7 @@ ghost use Rattle.counting.specs.Contract.{Printable, PassPut, PrintedOn};
 
 use pass::PassAnswer;
 use reader::CurveAnswer;
+use text::Text;
 
 // The length of a curve's record.
 const CURVE_SIZE: usize = 44;
@@ -18,45 +18,35 @@ const CURVE_SIZE: usize = 44;
 pub const INPUT_ROOM: usize = CURVE_SIZE + reader::LIST_LIMIT + 1;
 
 // All that is printed for what was found of a list.
-fn put_pass(out: &mut [u8], p: PassAnswer) -> usize
+fn put_pass(text: &mut Text<'_>, p: PassAnswer)
     requires printable { Printable p }
-    requires longest_bound { longest ≤ length out.old }
-    ensures { PassPut p out.old result out.new }
+    requires longest_bound { longest ≤ length text.old.free }
+    ensures { PassPut p text.old text.new }
 {
     match p {
         PassAnswer::All(x, t) => {
             let mut sum = [0u8; reader::ROOM];
             let size = reader::write_divisor(x, &mut sum);
-            printing::put_all(out, t, &sum[..size])
+            printing::put_all(text, t, &sum[..size])
         }
-        PassAnswer::Refused(n) => printing::put_refused(out, n),
+        PassAnswer::Refused(n) => printing::put_refused(text, n),
     }
 }
 
 // All that is printed for a curve and a list.
-fn put_report(out: &mut [u8], curve: &[u8], list: &[u8]) -> usize
-    requires { longest ≤ length out.old }
-    ensures { PrintedOn curve.now list.now out.old result out.new }
+fn put_report(text: &mut Text<'_>, curve: &[u8], list: &[u8])
+    requires { longest ≤ length text.old.free }
+    ensures { PrintedOn curve.now list.now text.old text.new }
 {
     let read = reader::read_curve(curve);
     match read {
         CurveAnswer::Curve(e) => {
             let g = ground::of(e);
             let found = pass::pass_on(g, list);
-            put_pass(out, found)
+            put_pass(text, found)
         }
-        CurveAnswer::Refused(n) => printing::put_refused(out, n),
+        CurveAnswer::Refused(n) => printing::put_refused(text, n),
     }
-}
-
-// How many of n bytes are the curve: the length of its record, or all, if fewer.
-fn curve_end(n: usize) -> usize
-    ensures { result ≡ min n curve_size }
-{
-    if n < CURVE_SIZE {
-        return n;
-    }
-    CURVE_SIZE
 }
 
 // All that is printed for an input, put at the start of `out`; returns that part of `out`.
@@ -64,18 +54,20 @@ pub fn report<'a>(input: &[u8], out: &'a mut [u8]) -> &'a mut [u8]
     requires { 256 ≤ length out.old }
     ensures { Report input.now result.now }
 {
-    let end = curve_end(input.len());
-    let size = put_report(out, &input[0..end], &input[end..]);
-    &mut out[0..size]
+    let (curve, list) = input.split_at(input.len().min(CURVE_SIZE));
+    let mut text = Text::new(out);
+    put_report(&mut text, curve, list);
+    text.into_bytes()
 }
 
 // All that is printed for the standard input, of which the first n bytes of the buffer `read` were read; put and returned as by `report`.
-// The buffer has to have room for one byte more than the longest list: a list that is too long is then known by what was read.
+// The buffer and not only what was read is asked for, as the contract speaks of its length: it has to have room for one byte more than the
+// longest list, so that a list that is too long is known by what was read.
 pub fn report_read<'a>(read: &[u8], n: usize, out: &'a mut [u8]) -> &'a mut [u8]
     requires enough_in_bounds { enough ≤ length read.now }
     requires n_in_bounds { n ≤ length read.now }
     requires room_bound { 256 ≤ length out.old }
     ensures { ReportsRead read.now n result.now }
 {
-    report(&read[0..n], out)
+    report(&read[..n], out)
 }

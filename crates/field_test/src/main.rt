@@ -4,80 +4,64 @@
 
 use std::io;
 
-fn number(rt: &impl Print, n: u32) -> io::Result<()> {
-    print!(rt; " {n}")
-}
+// p = 2^31 − 1, the largest that the calls take.
+const MERSENNE: u32 = 2147483647;
 
-// The inverse of a, where p is a prime above a.
-fn inverse(rt: &impl Print, p: u32, a: u32) -> io::Result<()> {
-    if p <= a {
-        return Ok(());
-    }
-    if !prime::is_prime(p) {
-        return Ok(());
-    }
-    number(rt, inversion::inverse(p, a))
-}
+// p = 2^32 − 5, the largest prime below 2^32.
+const LARGEST: u32 = 4294967291;
 
 fn line(rt: &impl Print, p: u32, a: u32, b: u32, c: u32) -> io::Result<()> {
-    if p <= a {
+    if p <= a || p <= b || p <= c {
         return Ok(());
     }
-    if p <= b {
-        return Ok(());
+    print!(rt; "{p} {a} {b} {c}:")?;
+    let sum = field::add(p, a, b);
+    let difference = field::sub(p, a, b);
+    let negative = field::neg(p, a);
+    print!(rt; " {sum} {difference} {negative}")?;
+    let product = field::mul(p, a, b);
+    let more = field::mul_add(p, a, b, c);
+    let less = field::mul_sub(p, a, b, c);
+    print!(rt; " {product} {more} {less}")?;
+    if prime::is_prime(p) {
+        let inverse = inversion::inverse(p, a);
+        print!(rt; " {inverse}")?;
     }
-    if p <= c {
-        return Ok(());
-    }
-    print!(rt; "{p}")?;
-    number(rt, a)?;
-    number(rt, b)?;
-    number(rt, c)?;
-    print!(rt; ":")?;
-    number(rt, field::add(p, a, b))?;
-    number(rt, field::sub(p, a, b))?;
-    number(rt, field::neg(p, a))?;
-    number(rt, field::mul(p, a, b))?;
-    number(rt, field::mul_add(p, a, b, c))?;
-    number(rt, field::mul_sub(p, a, b, c))?;
-    inverse(rt, p, a)?;
     println!(rt; "")
 }
 
-// p = 2, 3 and 5.
-fn small(rt: &impl Print) -> io::Result<()> {
-    line(rt, 2, 0, 0, 0)?;
-    line(rt, 2, 0, 1, 1)?;
-    line(rt, 2, 1, 1, 1)?;
-    line(rt, 3, 0, 2, 1)?;
-    line(rt, 3, 1, 2, 0)?;
-    line(rt, 3, 2, 2, 2)?;
-    line(rt, 5, 1, 3, 4)?;
-    line(rt, 5, 2, 4, 1)?;
-    line(rt, 5, 3, 3, 1)?;
-    line(rt, 5, 4, 3, 4)
-}
-
-// p = 2^31 − 1, the largest that the calls take.
-fn mersenne(rt: &impl Print) -> io::Result<()> {
-    line(rt, 2147483647, 0, 2147483646, 5)?;
-    line(rt, 2147483647, 2, 2147483645, 2147483646)?;
-    line(rt, 2147483647, 123456789, 987654321, 5)?;
-    line(rt, 2147483647, 1073741824, 2, 1)?;
-    line(rt, 2147483647, 2147483646, 2147483646, 2147483646)
-}
-
-// p = 2^32 − 5, the largest prime below 2^32.
-fn largest(rt: &impl Print) -> io::Result<()> {
-    line(rt, 4294967291, 0, 4294967290, 5)?;
-    line(rt, 4294967291, 2, 4294967289, 4294967290)?;
-    line(rt, 4294967291, 123456789, 987654321, 5)?;
-    line(rt, 4294967291, 2147483646, 2, 1)?;
-    line(rt, 4294967291, 4294967290, 4294967290, 4294967290)
+// A line for each a, b and c.
+fn lines(rt: &impl Print, p: u32, cases: &[(u32, u32, u32)]) -> io::Result<()> {
+    for (a, b, c) in cases {
+        line(rt, p, *a, *b, *c)?;
+    }
+    Ok(())
 }
 
 fn main(rt: HostRuntime) -> io::Result<()> {
-    small(&rt)?;
-    mersenne(&rt)?;
-    largest(&rt)
+    lines(&rt, 2, &[(0, 0, 0), (0, 1, 1), (1, 1, 1)])?;
+    lines(&rt, 3, &[(0, 2, 1), (1, 2, 0), (2, 2, 2)])?;
+    lines(&rt, 5, &[(1, 3, 4), (2, 4, 1), (3, 3, 1), (4, 3, 4)])?;
+    lines(
+        &rt,
+        MERSENNE,
+        &[
+            (0, 2147483646, 5),
+            (2, 2147483645, 2147483646),
+            (123456789, 987654321, 5),
+            (1073741824, 2, 1),
+            (2147483646, 2147483646, 2147483646),
+        ],
+    )?;
+    lines(
+        &rt,
+        LARGEST,
+        &[
+            (0, 4294967290, 5),
+            (2, 4294967289, 4294967290),
+            (123456789, 987654321, 5),
+            (2147483646, 2, 1),
+            (4294967290, 4294967290, 4294967290),
+        ],
+    )
 }

@@ -3,10 +3,6 @@
 
 use std::io;
 
-fn say(rt: &impl Print, n: u64) -> io::Result<()> {
-    println!(rt; "{n}")
-}
-
 fn say_same(rt: &impl Print, a: &[u8], b: &[u8]) -> io::Result<()> {
     let walk = words::compare(a, b);
     if walk.same {
@@ -20,13 +16,15 @@ fn main(rt: HostRuntime) -> io::Result<()> {
     let mut out: [u8; 20] = [9; 20];
     let ns: [u32; 3] = [65537, 4294967295, 67305985];
     let size = writing::write_record(&mut out, 258, &ns);
-    say(&rt, size as u64)?;
-    say(&rt, layout::read_u16(&out, 0) as u64)?;
-    say(&rt, layout::read_u16(&out, 2) as u64)?;
-    say(&rt, layout::read_u32(&out, 4) as u64)?;
-    say(&rt, layout::read_u32(&out, 8) as u64)?;
-    say(&rt, layout::read_u32(&out, 12) as u64)?;
-    say(&rt, layout::read_u32(&out, 16) as u64)?;
+    println!(rt; "{size}")?;
+    for i in 0..2 {
+        let n = layout::read_u16(&out, 2 * i);
+        println!(rt; "{n}")?;
+    }
+    for i in 1..5 {
+        let n = layout::read_u32(&out, 4 * i);
+        println!(rt; "{n}")?;
+    }
     say_same(
         &rt,
         &out,

@@ -5,14 +5,14 @@
 // the second argument, and the length of the slice for the result; the curve; and the second argument, in which points are numbers of four bytes.
 #![tactic(auto)]
 
-ghost use Rattle.std.specs.Prelude.{◌+◌, ◌*◌, ◌≤◌, length, IfOk};
+ghost use Rattle.std.specs.Prelude.{◌+◌, ◌*◌, ◌≤◌, length};
 
-use std::io;
 use std::io::{Input, Read};
-use whole::Whole;
+use std::ops::ControlFlow;
+use std::{fmt, io};
 
 // The bytes of a call before its arguments.
-const HEAD: usize = 13;
+const HEAD_LENGTH: usize = 13;
 
 // The most bytes of an argument.
 const BYTES: usize = 66000;
@@ -29,125 +29,165 @@ const START: usize = 200;
 // The most bytes or numbers that are lent for a result; as many as START are left behind it.
 const MOST: usize = 600;
 
-// Prints why the program ends; false, for there are no more calls.
-fn stop(rt: &impl Print, why: &[u8]) -> io::Result<bool> {
-    rt.write_all(why)?;
-    Ok(false)
+// What is wrong with the input.
+#[derive(Clone, Copy)]
+enum Fault {
+    CallCut,
+    CurveLong,
+    ArgumentLong,
+    ResultLong,
+    CurveCut,
+    ArgumentCut,
+    UnknownCall,
 }
 
-// Reads until `buf` is full or the input ends, and returns how many bytes were put at the start of `buf`.
-fn read_full(reader: &mut impl Read, buf: &mut [u8]) -> io::Result<usize>
-    ensures { IfOk result (λ n. n ≤ length buf.new) }
-{
-    let mut done = 0;
-    while done < buf.len() {
-        let n = reader.read(&mut buf[done..])?;
-        if n == 0 {
-            break;
+impl fmt::Display for Fault {
+    fn fmt<W: fmt::Write>(&self, f: &mut fmt::Formatter<W>) -> fmt::Result {
+        match self {
+            Fault::CallCut => write!(f, "a call is cut short"),
+            Fault::CurveLong => write!(f, "a curve is too long"),
+            Fault::ArgumentLong => write!(f, "an argument is too long"),
+            Fault::ResultLong => write!(f, "a result is too long"),
+            Fault::CurveCut => write!(f, "a curve is cut short"),
+            Fault::ArgumentCut => write!(f, "an argument is cut short"),
+            Fault::UnknownCall => write!(f, "no such call"),
         }
-        done += n;
-    }
-    Ok(done)
-}
-
-// Reads n bytes to the start of `to`; false if the input ends before.
-fn read_part(reader: &mut impl Read, to: &mut [u8], n: usize) -> io::Result<bool>
-    requires { n ≤ length to.old }
-{
-    let got = read_full(reader, &mut to[0..n])?;
-    Ok(got == n)
-}
-
-// Puts the first n numbers of a list in bytes at the start of `to`.
-fn take_numbers(list: &[u8], to: &mut [u32], n: usize)
-    requires n_in_bounds { 4 * n ≤ length list.now }
-    requires n_bound { n ≤ length to.old }
-{
-    for i in 0..n {
-        to[i] = layout::read_u32(list, 4 * i);
     }
 }
 
-// The byte that place i of an array of bytes has before a call: never 0.
-fn byte_mark(i: usize) -> u8 {
-    (1 + i % 251) as u8
+// Why the calls end before the input does.
+#[derive(Drop)]
+enum Stop {
+    Fault(Fault),
+    Io(io::Error),
 }
 
-// The number that place i of an array of numbers has before a call: no coordinate is as large.
-fn number_mark(i: usize) -> u32 {
-    (4294967295 - i % 65536) as u32
+impl From<Fault> for Stop {
+    fn from(fault: Fault) -> Stop {
+        Stop::Fault(fault)
+    }
+}
+
+impl From<io::Error> for Stop {
+    fn from(error: io::Error) -> Stop {
+        Stop::Io(error)
+    }
+}
+
+// Which of the two calls is made.
+#[derive(Clone, Copy)]
+enum Which {
+    Sum,
+    Points,
+}
+
+impl TryFrom<u8> for Which {
+    type Error = Fault;
+
+    fn try_from(which: u8) -> Result<Which, Fault> {
+        match which {
+            0 => Ok(Which::Sum),
+            1 => Ok(Which::Points),
+            _ => Err(Fault::UnknownCall),
+        }
+    }
+}
+
+// What stands before the arguments of a call: which call it is, the lengths of the curve and of the second argument, and that of the result.
+#[derive(Clone, Copy)]
+struct Head {
+    which: u8,
+    curve: usize,
+    second: usize,
+    result: usize,
+}
+
+impl Head {
+    fn of(bytes: &[u8; HEAD_LENGTH]) -> Head {
+        Head {
+            which: bytes[0],
+            curve: layout::read_u32(bytes, 1) as usize,
+            second: layout::read_u32(bytes, 5) as usize,
+            result: layout::read_u32(bytes, 9) as usize,
+        }
+    }
+}
+
+// A number that an array around a result holds before a call: which place has which.
+trait Marked: Copy + PartialEq {
+    fn mark(i: usize) -> Self;
+}
+
+impl Marked for u8 {
+    // Never 0.
+    fn mark(i: usize) -> u8 {
+        (1 + i % 251) as u8
+    }
+}
+
+impl Marked for u32 {
+    // No coordinate is as large.
+    fn mark(i: usize) -> u32 {
+        (4294967295 - i % 65536) as u32
+    }
 }
 
 // Puts its mark at each place.
-fn mark_bytes(s: &mut [u8]) {
+fn put_marks<T: Marked>(s: &mut [T]) {
     for i in 0..s.len() {
-        s[i] = byte_mark(i);
+        s[i] = T::mark(i);
     }
 }
 
-// Puts its mark at each place.
-fn mark_numbers(s: &mut [u32]) {
-    for i in 0..s.len() {
-        s[i] = number_mark(i);
-    }
-}
-
-// Whether the bytes from place `from` up to place `to` still have their marks.
-fn bytes_kept(s: &[u8], from: usize, to: usize) -> bool
+// Whether the places from `from` up to `to` still have their marks.
+fn is_kept<T: Marked>(s: &[T], from: usize, to: usize) -> bool
     requires { to ≤ length s.now }
 {
     for i in from..to {
-        if s[i] != byte_mark(i) {
+        if s[i] != T::mark(i) {
             return false;
         }
     }
     true
 }
 
-// Whether the numbers from place `from` up to place `to` still have their marks.
-fn numbers_kept(s: &[u32], from: usize, to: usize) -> bool
-    requires { to ≤ length s.now }
-{
-    for i in from..to {
-        if s[i] != number_mark(i) {
-            return false;
-        }
-    }
-    true
-}
-
-// A byte as a wider number.
-fn wide(b: u8) -> u64 {
-    b as u64
-}
-
-// Prints a space and bytes in hexadecimal digits; nothing for no bytes.
-fn print_bytes(rt: &impl Print, s: &[u8]) -> io::Result<()> {
-    if s.len() == 0 {
-        return Ok(());
-    }
-    print!(rt; " ")?;
-    for b in s {
-        let n = wide(*b);
-        print!(rt; "{n:02x}")?;
+// Fills `to`, or stops if the input ends before.
+fn read_part(reader: &mut impl Read, to: &mut [u8], cut: Fault) -> Result<(), Stop> {
+    if reading::read_full(reader, to)? < to.len() {
+        return Err(Stop::Fault(cut));
     }
     Ok(())
 }
 
-// Prints what stands before a number, and the number.
-fn print_behind(rt: &impl Print, front: &[u8], n: u32) -> io::Result<()> {
-    rt.write_all(front)?;
-    print!(rt; "{n}")
+// Puts the numbers of a list in bytes at the start of `to`.
+fn take_numbers(list: &[u8], to: &mut [u32])
+    requires { 4 * length to.old ≤ length list.now }
+{
+    for i in 0..to.len() {
+        to[i] = layout::read_u32(list, 4 * i);
+    }
+}
+
+// Prints a space and bytes in hexadecimal digits; nothing for no bytes.
+fn print_bytes(rt: &impl Print, s: &[u8]) -> io::Result<()> {
+    if s.is_empty() {
+        return Ok(());
+    }
+    print!(rt; " ")?;
+    for b in s {
+        print!(rt; "{b:02x}")?;
+    }
+    Ok(())
 }
 
 // Prints a space and numbers with commas between them; nothing for no numbers.
 fn print_numbers(rt: &impl Print, s: &[u32]) -> io::Result<()> {
-    if s.len() == 0 {
+    let Some((first, others)) = s.split_first() else {
         return Ok(());
-    }
-    print_behind(rt, b" ", s[0])?;
-    for n in &s[1..] {
-        print_behind(rt, b",", *n)?;
+    };
+    print!(rt; " {first}")?;
+    for n in others {
+        print!(rt; ",{n}")?;
     }
     Ok(())
 }
@@ -161,25 +201,9 @@ fn end_line(rt: &impl Print, kept: bool) -> io::Result<()> {
 }
 
 // Prints what a call returned. The result is how much the call says that it wrote, 0 for a refusal.
-fn print_returned(rt: &impl Print, r: i32) -> io::Result<u64> {
-    let size = whole::size_of(r as i64);
-    match size {
-        Whole::Up(n) => {
-            print!(rt; "{n}")?;
-            Ok(n)
-        }
-        Whole::Down(n) => {
-            print!(rt; "-{n}")?;
-            Ok(0)
-        }
-    }
-}
-
-// The lesser of two numbers.
-fn least(a: u64, b: usize) -> usize
-    ensures { result ≤ b }
-{
-    if a < b as u64 { a as usize } else { b }
+fn print_returned(rt: &impl Print, r: i32) -> io::Result<usize> {
+    print!(rt; "{r}")?;
+    Ok(usize::try_from(r).unwrap_or(0))
 }
 
 // Prints the line of a sum, for which n bytes were lent.
@@ -187,10 +211,12 @@ fn print_sum(rt: &impl Print, r: i32, around: &[u8], n: usize) -> io::Result<()>
     requires { 200 + n ≤ length around.now }
 {
     let said = print_returned(rt, r)?;
-    let end = START + least(said, n);
+    let end = START + said.min(n);
     print_bytes(rt, &around[START..end])?;
-    let kept = bytes_kept(around, 0, START) && bytes_kept(around, end, around.len());
-    end_line(rt, kept)
+    end_line(
+        rt,
+        is_kept(around, 0, START) && is_kept(around, end, around.len()),
+    )
 }
 
 // Prints the line of the points of a divisor, for which n numbers were lent.
@@ -198,17 +224,19 @@ fn print_points(rt: &impl Print, r: i32, around: &[u32], n: usize) -> io::Result
     requires { 200 + n ≤ length around.now }
 {
     let said = print_returned(rt, r)?;
-    let end = START + 2 * least(said, n / 2);
+    let end = START + 2 * said.min(n / 2);
     print_numbers(rt, &around[START..end])?;
-    let kept = numbers_kept(around, 0, START) && numbers_kept(around, end, around.len());
-    end_line(rt, kept)
+    end_line(
+        rt,
+        is_kept(around, 0, START) && is_kept(around, end, around.len()),
+    )
 }
 
 // Marks an array and lends n bytes of it to points_sum.
 fn call_sum(curve: &[u8], numbers: &[u32], around: &mut [u8], n: usize) -> i32
     requires { 200 + n ≤ length around.old }
 {
-    mark_bytes(around);
+    put_marks(around);
     let end = START + n;
     points::points_sum(curve, numbers, &mut around[START..end])
 }
@@ -217,7 +245,7 @@ fn call_sum(curve: &[u8], numbers: &[u32], around: &mut [u8], n: usize) -> i32
 fn call_points(curve: &[u8], divisor: &[u8], around: &mut [u32], n: usize) -> i32
     requires { 200 + n ≤ length around.old }
 {
-    mark_numbers(around);
+    put_marks(around);
     let end = START + n;
     points::points_of(curve, divisor, &mut around[START..end])
 }
@@ -229,9 +257,9 @@ fn trial_sum(rt: &impl Print, curve: &[u8], list: &[u8], n: usize) -> io::Result
 {
     let mut numbers = [0u32; NUMBERS];
     let count = list.len() / 4;
-    take_numbers(list, &mut numbers, count);
+    take_numbers(list, &mut numbers[..count]);
     let mut around = [0u8; AROUND];
-    let r = call_sum(curve, &numbers[0..count], &mut around, n);
+    let r = call_sum(curve, &numbers[..count], &mut around, n);
     print_sum(rt, r, &around, n)
 }
 
@@ -244,73 +272,59 @@ fn trial_points(rt: &impl Print, curve: &[u8], divisor: &[u8], n: usize) -> io::
     print_points(rt, r, &around, n)
 }
 
-// Reads the arguments of a call, makes it and prints its line; false if there are no more calls.
-fn call(
-    rt: &impl Print,
-    reader: &mut impl Read,
-    which: u8,
-    size: usize,
-    second_size: usize,
-    n: usize,
-) -> io::Result<bool> {
-    if BYTES < size {
-        return stop(rt, b"a curve is too long\n");
+// Reads the arguments of a call, makes it and prints its line.
+fn call(rt: &impl Print, reader: &mut impl Read, head: Head) -> Result<(), Stop> {
+    if BYTES < head.curve {
+        return Err(Stop::Fault(Fault::CurveLong));
     }
-    if BYTES < second_size {
-        return stop(rt, b"an argument is too long\n");
+    if BYTES < head.second {
+        return Err(Stop::Fault(Fault::ArgumentLong));
     }
-    if MOST < n {
-        return stop(rt, b"a result is too long\n");
+    if MOST < head.result {
+        return Err(Stop::Fault(Fault::ResultLong));
     }
     let mut curve = [0u8; BYTES];
-    if !read_part(reader, &mut curve, size)? {
-        return stop(rt, b"a curve is cut short\n");
-    }
+    read_part(reader, &mut curve[..head.curve], Fault::CurveCut)?;
     let mut second = [0u8; BYTES];
-    if !read_part(reader, &mut second, second_size)? {
-        return stop(rt, b"an argument is cut short\n");
+    read_part(reader, &mut second[..head.second], Fault::ArgumentCut)?;
+    let curve = &curve[..head.curve];
+    let second = &second[..head.second];
+    match Which::try_from(head.which)? {
+        Which::Sum => trial_sum(rt, curve, second, head.result)?,
+        Which::Points => trial_points(rt, curve, second, head.result)?,
     }
-    if which == 0 {
-        trial_sum(rt, &curve[0..size], &second[0..second_size], n)?;
-        return Ok(true);
-    }
-    if which == 1 {
-        trial_points(rt, &curve[0..size], &second[0..second_size], n)?;
-        return Ok(true);
-    }
-    stop(rt, b"no such call\n")
+    Ok(())
 }
 
-// Reads a call, makes it and prints its line; false if there are no more.
-fn turn(rt: &impl Print, reader: &mut impl Read) -> io::Result<bool> {
-    let mut head = [0u8; HEAD];
-    let got = read_full(reader, &mut head)?;
+// Reads a call, makes it and prints its line; breaks off if there are no more.
+fn turn(rt: &impl Print, reader: &mut impl Read) -> Result<ControlFlow<()>, Stop> {
+    let mut head = [0u8; HEAD_LENGTH];
+    let got = reading::read_full(reader, &mut head)?;
     if got == 0 {
-        return Ok(false);
+        return Ok(ControlFlow::Break(()));
     }
-    if got < HEAD {
-        return stop(rt, b"a call is cut short\n");
+    if got < HEAD_LENGTH {
+        return Err(Stop::Fault(Fault::CallCut));
     }
-    let size = layout::read_u32(&head, 1);
-    let second_size = layout::read_u32(&head, 5);
-    let n = layout::read_u32(&head, 9);
-    call(
-        rt,
-        reader,
-        head[0],
-        size as usize,
-        second_size as usize,
-        n as usize,
-    )
+    call(rt, reader, Head::of(&head))?;
+    Ok(ControlFlow::Continue(()))
 }
 
 // The turns are bounded by a number that no run uses up, for a proved loop has to end.
-fn main(rt: HostRuntime) -> io::Result<()> {
+fn run(rt: &(impl Input + Print)) -> Result<(), Stop> {
     let mut reader = rt.reader();
     for _ in 0..u64::MAX {
-        if !turn(&rt, &mut reader)? {
+        if let ControlFlow::Break(()) = turn(rt, &mut reader)? {
             break;
         }
     }
     Ok(())
+}
+
+fn main(rt: HostRuntime) -> io::Result<()> {
+    match run(&rt) {
+        Ok(()) => Ok(()),
+        Err(Stop::Fault(fault)) => println!(rt; "{fault}"),
+        Err(Stop::Io(error)) => Err(error),
+    }
 }

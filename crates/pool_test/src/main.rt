@@ -66,16 +66,6 @@ fn list_sum(out: &mut [u8]) -> usize
     c34::c34_list_sum(&c, list, out) as usize
 }
 
-// Prints a number and a text behind it.
-fn print_line(rt: &impl Print, n: u32, text: &[u8]) -> io::Result<()>
-    requires { length text.now ≤ 40 }
-{
-    let mut line = [0u8; 50];
-    let named = text::put_number(&mut line, 0, n);
-    let end = text::put_bytes(&mut line, named, text);
-    rt.write_all(&line[..end])
-}
-
 // Carries the calls out and prints how many records are left. If it is one, then also whether it is the sum of the list.
 fn trial(rt: &impl Print, calls: &[u32]) -> io::Result<()>
     requires { Valid 5 64 calls.now }
@@ -83,15 +73,15 @@ fn trial(rt: &impl Print, calls: &[u32]) -> io::Result<()>
     let mut s = lay_out();
     let left = run(calls, &mut s);
     if left != 1 {
-        return print_line(rt, left as u32, b" left\n");
+        return println!(rt; "{left} left");
     }
     let mut sum = [0u8; 40];
     let n = list_sum(&mut sum);
     let walk = words::compare(&s[0..n], &sum[0..n]);
     if walk.same {
-        return print_line(rt, 1, b" left, equal to the list sum\n");
+        return println!(rt; "1 left, equal to the list sum");
     }
-    print_line(rt, 1, b" left, unlike the list sum\n")
+    println!(rt; "1 left, unlike the list sum")
 }
 
 // A call is two places and the length of its buffer; a buffer under 40 bytes is refused, and the pool stays.

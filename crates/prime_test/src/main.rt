@@ -4,6 +4,16 @@
 
 use std::io;
 
+const CARMICHAEL: [u32; 7] = [561, 1105, 1729, 294409, 56052361, 118901521, 172947529];
+
+const BORDERS: [u32; 8] = [
+    677329, 680621, 14386849, 592289569, 2147117569, 2238141481, 4292870399, 4293001441,
+];
+
+const LARGE: [u32; 6] = [
+    65537, 2147483629, 2147483647, 2147483649, 4294967291, 4294967295,
+];
+
 fn say(rt: &impl Print, n: u32) -> io::Result<()> {
     if prime::is_prime(n) {
         println!(rt; "{n} prime")
@@ -12,46 +22,18 @@ fn say(rt: &impl Print, n: u32) -> io::Result<()> {
     }
 }
 
-fn small(rt: &impl Print) -> io::Result<()> {
-    for n in 0..32 {
-        say(rt, n)?;
+fn say_each(rt: &impl Print, numbers: &[u32]) -> io::Result<()> {
+    for n in numbers {
+        say(rt, *n)?;
     }
     Ok(())
 }
 
-fn carmichael(rt: &impl Print) -> io::Result<()> {
-    say(rt, 561)?;
-    say(rt, 1105)?;
-    say(rt, 1729)?;
-    say(rt, 294409)?;
-    say(rt, 56052361)?;
-    say(rt, 118901521)?;
-    say(rt, 172947529)
-}
-
-fn borders(rt: &impl Print) -> io::Result<()> {
-    say(rt, 677329)?;
-    say(rt, 680621)?;
-    say(rt, 14386849)?;
-    say(rt, 592289569)?;
-    say(rt, 2147117569)?;
-    say(rt, 2238141481)?;
-    say(rt, 4292870399)?;
-    say(rt, 4293001441)
-}
-
-fn large(rt: &impl Print) -> io::Result<()> {
-    say(rt, 65537)?;
-    say(rt, 2147483629)?;
-    say(rt, 2147483647)?;
-    say(rt, 2147483649)?;
-    say(rt, 4294967291)?;
-    say(rt, 4294967295)
-}
-
 fn main(rt: HostRuntime) -> io::Result<()> {
-    small(&rt)?;
-    carmichael(&rt)?;
-    borders(&rt)?;
-    large(&rt)
+    for n in 0..32 {
+        say(&rt, n)?;
+    }
+    say_each(&rt, &CARMICHAEL)?;
+    say_each(&rt, &BORDERS)?;
+    say_each(&rt, &LARGE)
 }

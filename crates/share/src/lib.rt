@@ -1,11 +1,12 @@
-// The line of the share put into a lent buffer; crate report, specs/Report.antt, says what the line is. Each function that puts something writes from place `at` on and returns the place behind it.
+// The line of the share put into a text; crate report, specs/Report.antt, says what the line is.
 #![tactic(auto)]
 
-ghost use Rattle.std.specs.Prelude.{◌≡◌, ◌+◌, ◌≤◌, ◌<◌, length};
+ghost use Rattle.std.specs.Prelude.{◌≡◌, ◌≤◌, ◌<◌, length};
 ghost use Rattle.text.specs.Put.{Placed};
 ghost use Rattle.report.specs.Report.{rounded, per_cent, share_line};
 
 use tallies::Tallies;
+use text::Text;
 
 // a / b as a whole number, a half rounded to the even one.
 fn rounded(a: u64, b: u64) -> u64
@@ -29,26 +30,26 @@ fn rounded(a: u64, b: u64) -> u64
 }
 
 // Hundredths with two decimals.
-fn put_per_cent(out: &mut [u8], at: usize, h: u32) -> usize
-    requires { at + 13 ≤ length out.old }
-    ensures { Placed out.old at (per_cent h) 13 result out.new }
+fn put_per_cent(text: &mut Text<'_>, h: u32)
+    requires { 13 ≤ length text.old.free }
+    ensures { Placed text.old (per_cent h) 13 text.new }
 {
-    let whole = text::put_number(out, at, h / 100);
-    let point = text::put_byte(out, whole, b'.');
-    text::put_two_digits(out, point, h % 100)
+    text.push_number(h / 100);
+    text.push_byte(b'.');
+    text.push_two_digits(h % 100);
 }
 
 // The line of the share.
-pub fn put_share(out: &mut [u8], at: usize, t: Tallies) -> usize
+pub fn put_share(text: &mut Text<'_>, t: Tallies)
     requires typical_le_total { t.typical ≤ t.total }
-    requires at_bound { at + 20 ≤ length out.old }
-    ensures { Placed out.old at (share_line t.typical t.total) 20 result out.new }
+    requires free_bound { 20 ≤ length text.old.free }
+    ensures { Placed text.old (share_line t.typical t.total) 20 text.new }
 {
     if t.total == 0 {
-        return text::put_bytes(out, at, b"share none\n");
+        return text.push_bytes(b"share none\n");
     }
     let hundredths = rounded(10000 * t.typical as u64, t.total as u64);
-    let named = text::put_bytes(out, at, b"share ");
-    let placed = put_per_cent(out, named, hundredths as u32);
-    text::put_byte(out, placed, b'\n')
+    text.push_bytes(b"share ");
+    put_per_cent(text, hundredths as u32);
+    text.push_byte(b'\n');
 }

@@ -2,3 +2,4 @@
 pub mod Ascii
 pub mod Decimal
 pub mod Put
+pub mod Written

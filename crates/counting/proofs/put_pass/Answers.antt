@@ -8,24 +8,26 @@ use Rattle.counting.proofs.put_pass.Goals as goal
 
 pub write_divisor-size-requires : goal.write_divisor-size-requires
 write_divisor-size-requires c =
-    write_asked (omega arith)
+    write_asked (subst Printable c.in-All.is c.requires.printable).0 (omega arith)
 
 pub slice_bounds-sum-end : goal.slice_bounds-sum-end
 slice_bounds-sum-end c =
-    (taken c.write_divisor-size.ensures).inside
+    (taken c.write_divisor-size.ensures (subst Printable c.in-All.is c.requires.printable).0).inside
 
 pub slice_bounds-put_all-end : goal.slice_bounds-put_all-end
 slice_bounds-put_all-end c =
-    (taken c.write_divisor-size.ensures).full
+    (taken c.write_divisor-size.ensures (subst Printable c.in-All.is c.requires.printable).0).full
 
 pub put_all-requires : goal.put_all-requires
 put_all-requires c =
-    let z = taken c.write_divisor-size.ensures in
-    record { typical_le_total = subst Printable c.in-All.is c.requires.printable; longest_bound = omega arith; in_bounds = omega (arith, z.least, z.full); w_len_bound = omega (arith, z.most, z.full) }
+    let h = subst Printable c.in-All.is c.requires.printable in
+    let z = taken c.write_divisor-size.ensures h.0 in
+    record { typical_le_total = h.1; longest_bound = omega arith; in_bounds = omega (arith, z.least, z.full); w_len_bound = omega (arith, z.most, z.full) }
 
 pub returns-in-All : goal.returns-in-All
 returns-in-All c =
-    all_put c.in-All.is (taken c.write_divisor-size.ensures) c.put_all.ensures
+    let q = c.in-All.is in
+    all_put q (taken c.write_divisor-size.ensures (subst Printable q c.requires.printable).0) c.put_all.ensures
 
 pub returns-in-Refused : goal.returns-in-Refused
 returns-in-Refused c = refused-put c.in-Refused.is c.put_refused.ensures

@@ -7,14 +7,8 @@ use Rattle.printing.proofs.put_counts.Goals as goal
 pub returns : goal.returns
 unfolding count_lines
 returns c =
-    record {
-      put =
-          put_then (omega arith)
-          (put_then (omega arith)
-          (put_then (omega arith)
-          (put_then (omega arith) c.put_line-after0.ensures.put c.put_line-after11.ensures.put)
-          c.put_line-after21.ensures.put)
-          c.put_line-after22.ensures.put)
-          c.put_line.ensures.put;
-      within = omega arith;
-    }
+    let all =
+    put_then
+    (put_then (put_then (put_then c.put_line.ensures.put c.put_line-2.ensures.put) c.put_line-3.ensures.put) c.put_line-4.ensures.put)
+    c.put_line-5.ensures.put in
+    record { put = all; within = omega arith }

@@ -7,7 +7,5 @@ use Rattle.printing.proofs.put_line.Goals as goal
 pub returns : goal.returns
 unfolding count_line
 returns c =
-    record {
-      put = put_then (omega arith) (put_then (omega arith) c.put_bytes-named.ensures c.put_number-counted.ensures.put) c.put_byte.ensures;
-      within = omega arith;
-    }
+    let all = put_then (put_then c.push_bytes.ensures c.push_number.ensures.put) c.push_byte.ensures in
+    record { put = all; within = omega arith }

@@ -4,4 +4,4 @@ use Rattle.printing.proofs.put_refused.Goals as goal
 
 pub returns : goal.returns
 unfolding refused_line
-returns c = c.put_line.ensures
+returns c = rw (← c.from.ensures) c.put_line.ensures

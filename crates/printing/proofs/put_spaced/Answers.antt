@@ -5,7 +5,5 @@ use Rattle.printing.proofs.put_spaced.Goals as goal
 
 pub returns : goal.returns
 returns c =
-    record {
-      put = put_then (omega arith) c.put_byte-next.ensures c.put_number.ensures.put;
-      within = omega arith;
-    }
+    let all = put_then c.push_byte.ensures c.push_number.ensures.put in
+    record { put = all; within = omega arith }

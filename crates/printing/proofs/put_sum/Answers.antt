@@ -7,11 +7,6 @@ use Rattle.printing.proofs.put_sum.Goals as goal
 pub returns : goal.returns
 unfolding sum_line
 returns c =
-    rw (← c.read_u16-kind.ensures.is)
-    (record {
-      put =
-          put_then (omega (arith, c.requires))
-          (put_then (omega (arith, c.requires)) (put_then (omega (arith, c.requires)) c.put_bytes-named.ensures c.put_number-placed.ensures.put) c.put_numbers-numbered.ensures.put)
-          c.put_byte.ensures;
-      within = omega (arith, c.requires);
-    })
+    let named = put_then c.push_bytes.ensures c.push_number.ensures.put in
+    let all = put_then (put_then named c.put_numbers.ensures.put) c.push_byte.ensures in
+    rw (← c.read_u16.ensures.is) (record { put = all; within = omega arith })

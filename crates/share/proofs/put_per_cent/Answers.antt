@@ -8,7 +8,5 @@ use Rattle.share.proofs.put_per_cent.Goals as goal
 pub returns : goal.returns
 unfolding per_cent two_digits
 returns c =
-    record {
-      put = put_then (omega arith) (put_then (omega arith) c.put_number-whole.ensures.put c.put_byte-point.ensures) c.put_two_digits.ensures;
-      within = omega (arith, c.put_two_digits.ensures.next);
-    }
+    let all = put_then (put_then c.push_number.ensures.put c.push_byte.ensures) c.push_two_digits.ensures in
+    record { put = all; within = omega arith }

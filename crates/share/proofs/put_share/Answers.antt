@@ -7,7 +7,7 @@ use Rattle.share.proofs.put_share.Goals as goal
 pub returns-then-t-eq0 : goal.returns-then-t-eq0
 returns-then-t-eq0 c =
     let t = c.args.t in
-    rw (share_none t.typical t.total c.if-t-eq0.true) (record { put = c.put_bytes.ensures; within = omega arith })
+    rw (share_none t.typical t.total c.if-t-eq0.true) (record { put = c.push_bytes.ensures; within = omega arith })
 
 pub overflow_cast-hundredths : goal.overflow_cast-hundredths
 overflow_cast-hundredths c =
@@ -17,8 +17,5 @@ overflow_cast-hundredths c =
 pub returns : goal.returns
 returns c =
     let t = c.args.t in
-    rw (share_some t.typical t.total (omega arith), ← c.rounded-hundredths.ensures)
-    (record {
-      put = put_then (omega arith) (put_then (omega arith) c.put_bytes-named.ensures c.put_per_cent-placed.ensures.put) c.put_byte.ensures;
-      within = omega arith;
-    })
+    let all = put_then (put_then c.push_bytes-2.ensures c.put_per_cent.ensures.put) c.push_byte.ensures in
+    rw (share_some t.typical t.total (omega arith), ← c.rounded-hundredths.ensures) (record { put = all; within = omega arith })
