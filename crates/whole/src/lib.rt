@@ -10,13 +10,13 @@ pub enum Whole {
     Down(u64),
 }
 
-// The sign and the size of n. −n does not fit at the least i64, so n + 1 is negated.
+// The sign and the size of n.
 pub fn size_of(n: i64) -> Whole
     ensures { SignOf n result }
 {
     if n >= 0 {
-        Whole::Up(n as u64)
+        Whole::Up(n.unsigned_abs())
     } else {
-        Whole::Down(((0 - (n + 1)) as u64) + 1)
+        Whole::Down(n.unsigned_abs())
     }
 }
