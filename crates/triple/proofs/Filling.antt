@@ -2,23 +2,18 @@
 --   Filling                insert_all's invariant: j of the vectors have been put in
 --   fill_start, fill_asked, fill_more, fill_end
 --   fill_stop              the triple is that of the whole ring already
-use mathlib.Core.Path.{◌≡◌, sym, subst}
-use mathlib.Core.Bool.{false}
+use mathlib.Core.Path.{sym, subst}
 use mathlib.Core.List.{List, ◌++◌}
 use Prim.Native.Nat.{ℕ, suc, ◌+◌, ◌*◌, ◌<◌, ◌≤◌}
 use native.Mathlib.Omega.{arith}
 use native.Mathlib.Numerals.{add-one}
-use lib.Dec.{eqb}
-use borrow.Author.Tests.{eqb-true, eqb-false}
 use Rattle.ideal.specs.Ideal.{SameIdeal}
 use Rattle.ideal.proofs.Every.{Every, every_append, every_left, every_right}
 use Rattle.ideal.proofs.Same.{same_trans}
 use Rattle.ideal.proofs.Span.{Span, span_each, span_same, span_within}
-use Rattle.vector.specs.Vector.{at, row, element}
+use Rattle.vector.specs.Vector.{row, element}
 use Rattle.triple.specs.Setting.{Setting, ring, poles_of}
 use Rattle.triple.specs.Triple.{Triple, elements, Spanned, listed}
-use Rattle.algebra.specs.Answers.{Answers}
-use Rattle.algebra.proofs.Answers.{answer-no}
 use Rattle.triple.specs.Contract.{InsertAsked, Inserted, AllAsked, AllInserted, Whole}
 use Rattle.triple.proofs.Members.{each_row, row-each}
 use Rattle.triple.proofs.Leads.{whole-all}

@@ -19,7 +19,7 @@ make_monic-requires c = monic_asked c.requires (lt_of_ne _ c.if-v-m-eq0.false)
 pub clear-requires-then-old-lt26 : goal.clear-requires-then-old-lt26
 clear-requires-then-old-lt26 c =
     rw (c.swap.ensures.x_after, c.swap.ensures.y_after)
-      (swap_asked c.requires c.make_monic.ensures (omega (arith, c.if-old-m.false)) c.if-old-lt26.true)
+    (swap_asked c.requires c.make_monic.ensures (omega (arith, c.if-old-m.false)) c.if-old-lt26.true)
 
 pub returns-then-old-lt26 : goal.returns-then-old-lt26
 returns-then-old-lt26 c =
