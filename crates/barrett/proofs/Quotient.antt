@@ -72,7 +72,8 @@ module _ (p x q : ℕ) where
   pub rest-large : q * p ≤ x → p ≤ x - q * p → x < q * p + 2 * p → Is p (x - q * p - p) (el p x)
   rest-large l h u = record { below = omega arith; is = sym (el_turns p _ (q + 1)) ∙ ap (el p) (omega arith) }
 
-module _ {p reciprocal factor shift opposite : ℕ} (d : Divides p reciprocal factor shift opposite) (x h : ℕ) (fits : x < 9223372036854775808) (is : h ≡ high_half x factor) where
+module _ {p reciprocal factor shift opposite : ℕ} (d : Divides p reciprocal factor shift opposite) (x h : ℕ) (fits : x < 9223372036854775808)
+    (is : h ≡ high_half x factor) where
   half-quotient : h / 2 ^ shift ≡ x / p
   unfolding high_half
   half-quotient = ap (λ (n : ℕ). n / 2 ^ shift) is ∙ d.quotient x fits

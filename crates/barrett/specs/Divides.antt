@@ -1,6 +1,6 @@
 -- How numbers are divided by p without a division.
---   Divides p reciprocal factor shift opposite     the numbers are made for p: the reciprocal is ⌊(2^64 − 1)/p⌋, the factor and the shift give the quotient of each number
---                                                  below 2^63, the opposite is −1/p modulo 2^32
+--   Divides p reciprocal factor shift opposite     the numbers are made for p: the reciprocal is ⌊(2^64 − 1)/p⌋, the factor and the shift give the
+--                                                  quotient of each number below 2^63, the opposite is −1/p modulo 2^32
 use Rattle.std.specs.Prelude.{◌≡◌, ℕ, ◌*◌, ◌/◌, ◌^◌, ◌<◌}
 use Rattle.inversion.specs.Contract.{OppositeOf}
 

@@ -6,8 +6,8 @@ ghost use Rattle.std.specs.Prelude.{◌≡◌};
 ghost use Rattle.barrett.specs.Divides.{Divides};
 ghost use Rattle.barrett.specs.Contract.{high_half};
 
-// A modulus p, and how numbers are divided by it without a division: the reciprocal is ⌊(2^64 − 1)/p⌋, a number below 2^63 times the factor over 2^(64 + shift) is its quotient
-// by p, and the opposite is −1/p modulo 2^32 where p is odd.
+// A modulus p, and how numbers are divided by it without a division: the reciprocal is ⌊(2^64 − 1)/p⌋, a number below 2^63 times the factor over
+// 2^(64 + shift) is its quotient by p, and the opposite is −1/p modulo 2^32 where p is odd.
 #[derive(Clone, Copy)]
 pub struct Modulus {
     pub p: u32,

@@ -1,7 +1,7 @@
 -- The loops over the products of a sum: what is left to be added and to be taken.
 --   Adding, Taking         after i products
-use mathlib.Core.Path.{◌≡◌, refl, sym, ◌∙◌, ap, subst}
-use mathlib.Core.List.{List, [], ◌∷◌}
+use mathlib.Core.Path.{◌≡◌, sym, ◌∙◌, ap, subst}
+use mathlib.Core.List.{List, ◌∷◌}
 use Prim.Native.Nat.{ℕ, ◌+◌, ◌*◌, ◌<◌, ◌≤◌}
 use native.Mathlib.Omega.{arith}
 use lib.ListN.{length, drop, get_or}
@@ -31,8 +31,8 @@ module _ {p i : ℕ} (pairs : List (ℕ × ℕ)) (l : i < length pairs) (b : All
   second_below = next.1
 
 module _ {p x i total : ℕ} {pairs : List (ℕ × ℕ)} where
-  pub added : {r : ℕ} → i < length pairs → Adding p x pairs i total → Sum p total r (more₁ (Z p) (el p total) (el p (get_or pairs i (0, 0)).0) (el p (get_or pairs i (0, 0)).1))
-      → Adding p x pairs (i + 1) r
+  pub added : {r : ℕ} → i < length pairs → Adding p x pairs i total
+      → Sum p total r (more₁ (Z p) (el p total) (el p (get_or pairs i (0, 0)).0) (el p (get_or pairs i (0, 0)).1)) → Adding p x pairs (i + 1) r
   added l h s =
       record {
         most = omega (arith, h.most, s.more);
@@ -40,8 +40,8 @@ module _ {p x i total : ℕ} {pairs : List (ℕ × ℕ)} where
         below = (next pairs l h.below).2;
       }
 
-  pub taken : {r : ℕ} → i < length pairs → Taking p x pairs i total → Sum p total r (less₁ (Z p) (el p total) (el p (get_or pairs i (0, 0)).0) (el p (get_or pairs i (0, 0)).1))
-      → Taking p x pairs (i + 1) r
+  pub taken : {r : ℕ} → i < length pairs → Taking p x pairs i total
+      → Sum p total r (less₁ (Z p) (el p total) (el p (get_or pairs i (0, 0)).0) (el p (get_or pairs i (0, 0)).1)) → Taking p x pairs (i + 1) r
   taken l h s =
       record {
         most = omega (arith, h.most, s.more);

@@ -9,7 +9,8 @@
 --   reached-all            x is done
 --   put-most, put_asked    there is room for the pair
 --   reached_length         the slice keeps its length
---   Line                   the invariant of list_at's loop; line-start, line-next, line-end; line-here at the root that was found, line-past where there is none
+--   Line                   the invariant of list_at's loop; line-start, line-next, line-end
+--   line-here, line-past   … at the root that was found, and where there is none
 --   reached-next           the next turn of list_points' loop; reached-here, reached-past likewise
 use mathlib.Core.Path.{◌≡◌, sym, subst}
 use mathlib.Core.List.{List, [], ◌++◌}

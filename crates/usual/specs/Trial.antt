@@ -43,7 +43,8 @@ module _ {g : Ground} {a b : Divisor} (A : TriedAsked g a b) where
 
   abbrev pub Untypical : Type 0
   Untypical =
-      HasPivots → (κ : Kind) (n : ℕ → (Z g.p).Car) → IsBasis curve_on κ n → IsReduced (poles_of A.grounded.ready.setting) product_on (IdealOf curve_on κ n) → n 2 ≡ (Z g.p).zero
+      HasPivots → (κ : Kind) (n : ℕ → (Z g.p).Car) → IsBasis curve_on κ n → IsReduced (poles_of A.grounded.ready.setting) product_on (IdealOf curve_on κ n)
+      → n 2 ≡ (Z g.p).zero
 
   pub record TriedIs (r : Option Divisor) : Type 0 where
     pub yes : IfSome r Summed

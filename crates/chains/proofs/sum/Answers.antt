@@ -12,7 +12,12 @@ loop-a-init g c = record { most = omega arith; rest = refl; below = c.requires.p
 pub add_product-total-requires : goal.add_product-total-requires
 add_product-total-requires g c =
     let h = c.loop-a.invariant in
-    record { small = c.requires.small; room = omega (arith, h.most, c.requires.few, c.requires.x_below, c.requires.small); below_1 = first_below c.args.plus (omega arith) h.below; below_2 = second_below c.args.plus (omega arith) h.below }
+    record {
+      small = c.requires.small;
+      room = omega (arith, h.most, c.requires.few, c.requires.x_below, c.requires.small);
+      below_1 = first_below c.args.plus (omega arith) h.below;
+      below_2 = second_below c.args.plus (omega arith) h.below;
+    }
 
 pub loop-a-preserved : goal.loop-a-preserved
 loop-a-preserved g c = added (omega arith) c.loop-a.invariant c.add_product-total.ensures
@@ -23,7 +28,12 @@ loop-c-init g c = record { most = omega arith; rest = refl; below = c.requires.m
 pub sub_product-total-requires : goal.sub_product-total-requires
 sub_product-total-requires g c =
     let h = c.loop-c.invariant in
-    record { small = c.requires.small; room = omega (arith, h.most, c.loop-a.invariant.most, c.requires.few, c.requires.x_below, c.requires.small); below_1 = first_below c.args.minus (omega arith) h.below; below_2 = second_below c.args.minus (omega arith) h.below }
+    record {
+      small = c.requires.small;
+      room = omega (arith, h.most, c.loop-a.invariant.most, c.requires.few, c.requires.x_below, c.requires.small);
+      below_1 = first_below c.args.minus (omega arith) h.below;
+      below_2 = second_below c.args.minus (omega arith) h.below;
+    }
 
 pub loop-c-preserved : goal.loop-c-preserved
 loop-c-preserved g c = taken (omega arith) c.loop-c.invariant c.sub_product-total.ensures
