@@ -11,6 +11,7 @@ use Prim.Native.Nat.{ℕ, ◌+◌, ◌*◌, ◌≤◌}
 use native.Mathlib.Omega.{arith}
 use lib.ListN.{length, length-append}
 use lib.Dec.{eqb}
+use mir.Val.{bool_byte}
 use denote.Enum.Bare.{sameb, same_true, true_same}
 use borrow.Author.Rules.{rules}
 use borrow.Author.Tests.{eq-eqb, ne_eqb}
@@ -30,7 +31,12 @@ use Rattle.record.proofs.Written.{bytes_of-kind, bytes_of-number}
 use Rattle.calls.specs.Call.{one_if, tally}
 use Rattle.report.specs.Report.{typical, typicals}
 use Rattle.tallies.specs.declared.Tallies.{Tallies}
-use Rattle.tallies.specs.Tallied.{TalliesOf, Bounded, OneIf, HasRecord, TypicalTest, AddedTo}
+use Rattle.tallies.specs.Tallied.{TalliesOf, Bounded, HasRecord, TypicalTest, AddedTo}
+
+-- a test as a number
+as_number : (b : Bool) → bool_byte b ≡ one_if b
+as_number true = refl
+as_number false = refl
 
 one-most : (b : Bool) → one_if b ≤ 1
 one-most true = omega arith
@@ -76,9 +82,9 @@ module _ {x : Divisor} {r : List ℕ} (h : HasRecord x r) where
   kind_read = ap (λ (s : List ℕ). number2 s 2) (sym h.bytes) ∙ bytes_of-kind x.kind x
 
   -- one tally with one record more
-  tally-of : (kind : ℕ) (rs : List (List ℕ)) {n m : ℕ} → n ≡ tally kind rs → OneIf (eqb (code x.kind) kind) m → n + m ≡ tally kind (rs ++ r ∷ [])
+  tally-of : (kind : ℕ) (rs : List (List ℕ)) {n m : ℕ} → n ≡ tally kind rs → m ≡ bool_byte (eqb (code x.kind) kind) → n + m ≡ tally kind (rs ++ r ∷ [])
   tally-of kind rs e f =
-      ap₂ (λ (i j : ℕ). i + j) e (f.is ∙ ap (λ (i : ℕ). one_if (eqb i kind)) (sym kind_read)) ∙ sym (tally-more kind rs r)
+      ap₂ (λ (i j : ℕ). i + j) e (f ∙ as_number (eqb (code x.kind) kind) ∙ ap (λ (i : ℕ). one_if (eqb i kind)) (sym kind_read)) ∙ sym (tally-more kind rs r)
 
 -- where the kind is 31, the third number that is read is that of the value; where it is not, the record is not typical
 third_read : (κ : Kind) (x : Divisor) → Words (numbers_of x)
@@ -105,8 +111,8 @@ same_code κ ν = go (ℕ_discrete (code κ) (code ν))
     go (no n) = false_of _ (λ h. n (ap code (same_true the_type (search rules) κ ν h))) ∙ sym (ne_eqb (code κ) (code ν) n)
 
 module _ (t : Tallies) (x : Divisor) {m0 m11 m21 m22 m31 mt : ℕ} (b : Bool) (typical-is : TypicalTest x b)
-    (e0 : OneIf (eqb (code x.kind) 0) m0) (e11 : OneIf (eqb (code x.kind) 11) m11) (e21 : OneIf (eqb (code x.kind) 21) m21)
-    (e22 : OneIf (eqb (code x.kind) 22) m22) (e31 : OneIf (eqb (code x.kind) 31) m31) (et : OneIf b mt) where
+    (e0 : m0 ≡ bool_byte (sameb the_type x.kind k0)) (e11 : m11 ≡ bool_byte (sameb the_type x.kind k11)) (e21 : m21 ≡ bool_byte (sameb the_type x.kind k21))
+    (e22 : m22 ≡ bool_byte (sameb the_type x.kind k22)) (e31 : m31 ≡ bool_byte (sameb the_type x.kind k31)) (et : mt ≡ bool_byte b) where
   pub tallies-more : AddedTo t x
       (record {
         n0 = t.n0 + m0;
@@ -119,11 +125,11 @@ module _ (t : Tallies) (x : Divisor) {m0 m11 m21 m22 m31 mt : ℕ} (b : Bool) (t
       })
   tallies-more rs r h k =
       record {
-        is_0 = tally-of k 0 rs h.is_0 e0;
-        is_11 = tally-of k 11 rs h.is_11 e11;
-        is_21 = tally-of k 21 rs h.is_21 e21;
-        is_22 = tally-of k 22 rs h.is_22 e22;
-        is_31 = tally-of k 31 rs h.is_31 e31;
-        is_typical = ap₂ (λ (i j : ℕ). i + j) h.is_typical (et.is ∙ ap one_if (typical-is r k)) ∙ sym (typicals-more rs r);
+        is_0 = tally-of k 0 rs h.is_0 (e0 ∙ ap bool_byte (same_code x.kind k0));
+        is_11 = tally-of k 11 rs h.is_11 (e11 ∙ ap bool_byte (same_code x.kind k11));
+        is_21 = tally-of k 21 rs h.is_21 (e21 ∙ ap bool_byte (same_code x.kind k21));
+        is_22 = tally-of k 22 rs h.is_22 (e22 ∙ ap bool_byte (same_code x.kind k22));
+        is_31 = tally-of k 31 rs h.is_31 (e31 ∙ ap bool_byte (same_code x.kind k31));
+        is_typical = ap₂ (λ (i j : ℕ). i + j) h.is_typical (et ∙ as_number b ∙ ap one_if (typical-is r k)) ∙ sym (typicals-more rs r);
         is_total = omega (arith, h.is_total, length-append rs (r ∷ []));
       }

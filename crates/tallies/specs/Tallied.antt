@@ -1,7 +1,6 @@
 -- The tallies of a list of records by value: how many have each kind, how many are typical, how many there are.
 --   TalliesOf rs t       t holds the tallies of the records rs
 --   Bounded t            each tally is at most that of all records
---   OneIf b r            one_if, of_kind: r is 1 if b holds, else 0
 --   HasRecord x r        r is the record of the divisor by value x, whose numbers are below 2³²
 --   TypicalTest x b      typical: is the record of x typical
 --   AddedTo t x t'       add: t' counts one record more than t, that of x
@@ -10,7 +9,7 @@ use Rattle.layout.specs.Layout.{Words}
 use Rattle.basis.specs.Divisor.{numbers_of}
 use Rattle.basis.specs.declared.Divisor.{Divisor}
 use Rattle.record.specs.Value.{bytes_of}
-use Rattle.calls.specs.Call.{one_if, tally}
+use Rattle.calls.specs.Call.{tally}
 use Rattle.report.specs.Report.{typical, typicals}
 use Rattle.tallies.specs.declared.Tallies.{Tallies}
 
@@ -30,10 +29,6 @@ pub record Bounded (t : Tallies) : Type 0 where
   pub most_22 : t.n22 ≤ t.total
   pub most_31 : t.n31 ≤ t.total
   pub most_typical : t.typical ≤ t.total
-
-pub record OneIf (b : Bool) (r : ℕ) : Type 0 where
-  pub is : r ≡ one_if b
-  pub small : r ≤ 1
 
 pub record HasRecord (x : Divisor) (r : List ℕ) : Type 0 where
   pub words : Words (numbers_of x)

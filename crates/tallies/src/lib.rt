@@ -1,15 +1,14 @@
 // The tallies of the records of a list by value: how many there are of each kind, how many are typical, how many in all.
 #![tactic(auto)]
 
-ghost use Rattle.std.specs.Prelude.{[], ◌<◌, eqb};
-ghost use Rattle.kind.specs.Kinds.{code};
-ghost use Rattle.tallies.specs.Tallied.{TalliesOf, Bounded, OneIf, TypicalTest, AddedTo};
+ghost use Rattle.std.specs.Prelude.{[], ◌<◌};
+ghost use Rattle.tallies.specs.Tallied.{TalliesOf, Bounded, TypicalTest, AddedTo};
 
 use basis::Divisor;
 use kind::Kind;
 
 // How many records of a list have each of the five kinds, how many are typical, and how many there are.
-#[derive(Clone, Copy)]
+#[derive(Clone, Copy, Default)]
 pub struct Tallies {
     pub n0: u32,
     pub n11: u32,
@@ -24,15 +23,7 @@ pub struct Tallies {
 pub fn no_records() -> Tallies
     ensures { TalliesOf [] result }
 {
-    Tallies {
-        n0: 0,
-        n11: 0,
-        n21: 0,
-        n22: 0,
-        n31: 0,
-        typical: 0,
-        total: 0,
-    }
+    Tallies::default()
 }
 
 // Is the record of this divisor typical? Its third number is f2.
@@ -42,23 +33,6 @@ fn typical(x: Divisor) -> bool
     x.kind == Kind::K31 && x.n2 != 0
 }
 
-// 1 for true, 0 for false.
-fn one_if(b: bool) -> u32
-    ensures { OneIf b result }
-{
-    if b {
-        return 1;
-    }
-    0
-}
-
-// 1 for a divisor of the kind, 0 for another.
-fn of_kind(x: Divisor, kind: Kind) -> u32
-    ensures { OneIf (eqb (code x.kind) (code kind)) result }
-{
-    one_if(x.kind == kind)
-}
-
 // The tallies with one record more, that of x.
 pub fn add(t: Tallies, x: Divisor) -> Tallies
     requires bounded { Bounded t }
@@ -66,12 +40,12 @@ pub fn add(t: Tallies, x: Divisor) -> Tallies
     ensures { AddedTo t x result }
 {
     Tallies {
-        n0: t.n0 + of_kind(x, Kind::Zero),
-        n11: t.n11 + of_kind(x, Kind::K11),
-        n21: t.n21 + of_kind(x, Kind::K21),
-        n22: t.n22 + of_kind(x, Kind::K22),
-        n31: t.n31 + of_kind(x, Kind::K31),
-        typical: t.typical + one_if(typical(x)),
+        n0: t.n0 + u32::from(x.kind == Kind::Zero),
+        n11: t.n11 + u32::from(x.kind == Kind::K11),
+        n21: t.n21 + u32::from(x.kind == Kind::K21),
+        n22: t.n22 + u32::from(x.kind == Kind::K22),
+        n31: t.n31 + u32::from(x.kind == Kind::K31),
+        typical: t.typical + u32::from(typical(x)),
         total: t.total + 1,
     }
 }

@@ -1,4 +1,4 @@
--- `tallies::add` meets its contract: each tally is at most the number of all records, so one more fits.
+-- `tallies::add` meets its contract: each test counts as one record if it holds.
 use Rattle.tallies.proofs.More.{tallies-more}
 use Rattle.tallies.proofs.add.Goals as goal
 
@@ -6,5 +6,5 @@ pub returns : goal.returns
 returns c =
     let a = c.args in
     tallies-more a.t a.x c.typical.result c.typical.ensures
-    c.of_kind.ensures c.of_kind-2.ensures c.of_kind-3.ensures
-    c.of_kind-4.ensures c.of_kind-5.ensures c.one_if.ensures
+    c.from.ensures c.from-2.ensures c.from-3.ensures
+    c.from-4.ensures c.from-5.ensures c.from-6.ensures
