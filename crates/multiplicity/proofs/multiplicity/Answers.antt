@@ -17,7 +17,8 @@ pub inside-requires-2 : goal.inside-requires-2
 inside-requires-2 c = record { full = c.requires.full_t; triple = c.product-square.ensures.full.triple }
 
 pub returns-then-not-inside-2 : goal.returns-then-not-inside-2
-returns-then-not-inside-2 c = found_once c.inside.ensures (ap not c.if-not-inside.false) c.product-square.ensures c.inside-2.ensures (ap not c.if-not-inside-2.true)
+returns-then-not-inside-2 c =
+    found_once c.inside.ensures (ap not c.if-not-inside.false) c.product-square.ensures c.inside-2.ensures (ap not c.if-not-inside-2.true)
 
 pub product-third-requires : goal.product-third-requires
 product-third-requires c = cube-asked c.requires c.product-square.ensures c.inside-2.ensures (ap not c.if-not-inside-2.false)
@@ -27,8 +28,10 @@ inside-requires-3 c = record { full = c.requires.full_t; triple = c.product-thir
 
 pub returns-then-not-inside-3 : goal.returns-then-not-inside-3
 returns-then-not-inside-3 c =
-    found-twice c.inside.ensures (ap not c.if-not-inside.false) c.product-square.ensures c.inside-2.ensures (ap not c.if-not-inside-2.false) c.product-third.ensures c.inside-3.ensures (ap not c.if-not-inside-3.true)
+    found-twice c.inside.ensures (ap not c.if-not-inside.false) c.product-square.ensures c.inside-2.ensures (ap not c.if-not-inside-2.false)
+    c.product-third.ensures c.inside-3.ensures (ap not c.if-not-inside-3.true)
 
 pub returns : goal.returns
 returns c =
-    found-thrice c.inside.ensures (ap not c.if-not-inside.false) c.product-square.ensures c.inside-2.ensures (ap not c.if-not-inside-2.false) c.product-third.ensures c.inside-3.ensures (ap not c.if-not-inside-3.false)
+    found-thrice c.inside.ensures (ap not c.if-not-inside.false) c.product-square.ensures c.inside-2.ensures (ap not c.if-not-inside-2.false)
+    c.product-third.ensures c.inside-3.ensures (ap not c.if-not-inside-3.false)

@@ -22,10 +22,12 @@ mul-requires c =
 
 pub loop-a-preserved : goal.loop-a-preserved
 loop-a-preserved c =
-    let e = front c.loop-a.a-items (drop c.args.e c.args.v.now) c.loop-a.a-index (omega arith) in
-    let i : Is c.args.p c.mul.result ((Z c.args.p).mul (el c.args.p c.args.c) (res c.args.p (c.loop-a.a-items ++ drop c.args.e c.args.v.now) c.loop-a.a-index)) =
-    rw e c.mul.ensures in
-    subst (Scaled c.args.p c.args.v.now c.args.c (c.loop-a.a-index + 1)) (set-append_left c.loop-a.a-items (drop c.args.e c.args.v.now) c.loop-a.a-index c.mul.result (omega arith))
+    let p = c.args.p in
+    let rest = drop c.args.e c.args.v.now in
+    let e = front c.loop-a.a-items rest c.loop-a.a-index (omega arith) in
+    let i : Is p c.mul.result ((Z p).mul (el p c.args.c) (res p (c.loop-a.a-items ++ rest) c.loop-a.a-index)) = rw e c.mul.ensures in
+    let stored = set-append_left c.loop-a.a-items rest c.loop-a.a-index c.mul.result (omega arith) in
+    subst (Scaled p c.args.v.now c.args.c (c.loop-a.a-index + 1)) stored
     (scaled_more c.requires c.loop-a.invariant (omega (arith, length-take {A = ℕ})) i)
 
 pub returns : goal.returns
