@@ -14,7 +14,7 @@ use Rattle.ideal.specs.Ideal.{Product}
 use Rattle.ideal.specs.Poles.{Poles}
 use Rattle.ideal.specs.Reduced.{IsReduced}
 use Rattle.curve.specs.Curve.{Curve, Coordinate}
-use Rattle.divisor.specs.Kind.{Kind, k31, IdealOf, IsBasis}
+use Rattle.divisor.specs.Kind.{k31, IdealOf, IsBasis}
 use Rattle.divisor.proofs.Members.{member}
 use Rattle.invertible.proofs.Value as value
 use Rattle.invertible.proofs.Adjugate.{q}
