@@ -1,40 +1,27 @@
 -- The curve, the sum of the points on its ground, and the buffer.
-use mathlib.Core.Path.{refl, ◌∙◌}
-use mathlib.Core.List.{◌∷◌, map}
+use Rattle.std.proofs.Common.{rules}
+use mathlib.Core.List.{◌∷◌, ◌++◌, map}
 use Rattle.record.specs.Curve.{curve_stages}
 use Rattle.calls.specs.Class.{IsListSum}
+use Rattle.classes.specs.Found.{Curved}
+use Rattle.classes.proofs.Made.{done-found}
 use Rattle.point.specs.Point.{point_record}
 use Rattle.point.specs.PointCall.{pairs, numbers_stage, pairs_stages}
-use Rattle.reader.proofs.Ground.{curve-passes, curve-asked, curve_on, curve-cause}
-use Rattle.answer.proofs.Curve.{writes_curve}
-use Rattle.answer.proofs.Write.{writes_found}
+use Rattle.reply.proofs.Found.{writes_found}
 use Rattle.reply.proofs.Number.{kept}
 use Rattle.points.proofs.points_sum.Goals as goal
 
-pub of-g-requires : goal.of-g-requires
-of-g-requires c =
-    let read = c.read_curve-read in
-    curve-asked c.args.curve.now read.result read.ensures _ c.in-Curve.is
+pub on_curve-requires : goal.on_curve-requires
+on_curve-requires c = λ g o.
+    let curved : Curved g = (c.args.curve.now, o) in
+    search rules
 
-pub sum_on-found-requires : goal.sum_on-found-requires
-sum_on-found-requires c =
-    let k = c.args.curve.now in
-    let read = c.read_curve-read in
-    (k, curve_on k read.result read.ensures _ c.in-Curve.is _ c.of-g.ensures)
-
-pub returns-in-Curve : goal.returns-in-Curve
-returns-in-Curve c =
+pub returns : goal.returns
+returns c =
     let k = c.args.curve.now in
     let ns = c.args.points.now in
-    let read = c.read_curve-read in
-    let is = c.in-Curve.is in
-    let o = curve_on k read.result read.ensures _ is _ c.of-g.ensures in
-    let found = c.sum_on-found in
-    writes_found k (numbers_stage ns ∷ pairs_stages k (pairs ns)) (IsListSum k (map (point_record k) (pairs ns))) _ found.result (curve-passes k read.result read.ensures _ is) (found.ensures k o)
-    c.written.ensures (kept c.written.result c.written.type_inv)
-
-pub returns-in-Refused : goal.returns-in-Refused
-returns-in-Refused c =
-    let k = c.args.curve.now in
-    let read = c.read_curve-read in
-    writes_curve (curve_stages k) _ _ (curve-cause k read.result read.ensures _ c.in-Refused.is) (kept c.refusal.result c.refusal.type_inv ∙ c.refusal.ensures) refl
+    rw (kept c.written.result c.written.type_inv)
+    (writes_found k (curve_stages k ++ numbers_stage ns ∷ pairs_stages k (pairs ns)) (IsListSum k (map (point_record k) (pairs ns))) _
+    (done-found k (numbers_stage ns ∷ pairs_stages k (pairs ns)) (IsListSum k (map (point_record k) (pairs ns))) _
+    (λ g o p. search (rules, o)) c.on_curve.ensures)
+    c.written.ensures)

@@ -3,16 +3,10 @@ use mathlib.Core.List.{map}
 use Rattle.calls.specs.Class.{IsListSum}
 use Rattle.point.specs.Point.{point_record}
 use Rattle.point.specs.PointCall.{pairs}
-use Rattle.points.proofs.Walk.{count-odd, count-large, count-right}
+use Rattle.points.proofs.Walk.{count-right}
 use Rattle.points.proofs.sum_on.Goals as goal
-
-pub returns-then-points-ne0 : goal.returns-then-points-ne0
-returns-then-points-ne0 c = count-odd _ c.args.points.now c.if-points-ne0.true
-
-pub returns-then-points-gt-NUMBERS : goal.returns-then-points-gt-NUMBERS
-returns-then-points-gt-NUMBERS c = count-large _ c.args.points.now c.if-points-gt-NUMBERS.true
 
 pub returns : goal.returns
 returns c =
     let ns = c.args.points.now in
-    count-right _ ns c.if-points-ne0.false c.if-points-gt-NUMBERS.false (λ k. IsListSum k (map (point_record k) (pairs ns))) c.total.result c.total.ensures
+    count-right ns c.if-points-ne0.false c.if-points-gt-NUMBERS.false (λ k. IsListSum k (map (point_record k) (pairs ns))) c.total.result c.total.ensures
