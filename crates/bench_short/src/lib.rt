@@ -11,7 +11,7 @@ pub extern "C" fn bench_shorten(p: u32, divisor: &[u8], out: &mut [u8]) -> u32
     if out.len() < reader::ROOM {
         return 0;
     }
-    if form::divisor_form(divisor) != 0 {
+    if form::divisor_form(divisor).is_err() {
         return 0;
     }
     let x = checks::value(divisor);
