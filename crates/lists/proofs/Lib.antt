@@ -1,4 +1,3 @@
 -- Lists that are read record by record.
-pub mod Next
 pub mod Walk
 pub mod Lists

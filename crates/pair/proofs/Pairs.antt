@@ -8,7 +8,8 @@ use mathlib.Core.Bool.{Bool, true, false}
 use mathlib.Core.List.{List}
 use Prim.Native.Nat.{ℕ, ◌<◌}
 use native.Mathlib.Omega.{arith}
-use Rattle.algebra.specs.Ring.{CommRing}
+use Rattle.std.specs.Prelude.{Ok, Err}
+use Rattle.refusal.specs.declared.Refusal.TheVariants as refusal
 use Rattle.algebra.specs.Answers.{Answers}
 use Rattle.field.specs.Residue.{Z, el, num}
 use Rattle.field.specs.Contract.{Is}
@@ -21,7 +22,6 @@ use Rattle.basis.specs.Contract.{BasisAsked, BasisTest}
 use Rattle.record.specs.Curve.{modulus, equation}
 use Rattle.reader.specs.Reading.{On, GivenOn}
 use Rattle.reader.proofs.Ground.{ground-is, grounded-at}
-use Rattle.reader.specs.declared.DivisorAnswer.TheVariants as answer
 use Rattle.classes.specs.Found.{Curved, OnCurves}
 use Rattle.point.specs.Point.{InField, OnCurve, point_record}
 use Rattle.point.proofs.Records.{point-value, point-bytes, point-shaped, point-basis, basis-point, point-based, point-accepted}
@@ -34,7 +34,7 @@ module _ {g : Ground} (a b : ℕ) where
     λ h. (omega (arith, h.0, o.ground.modulus), omega (arith, h.1, o.ground.modulus)),
   )
 
-  pub pair_outside : ¬ ((a < g.p) × (b < g.p)) → OnCurves g (λ c. PairRead c (a, b) (answer.Refused 8))
+  pub pair_outside : ¬ ((a < g.p) × (b < g.p)) → OnCurves g (λ c. PairRead c (a, b) (Err refusal.Number))
   pair_outside n c o = inl (λ h. n ((at_ground c o).0 h), refl)
 
   module _ {f0 g0 : ℕ} (is_f : Is g.p f0 ((Z g.p).neg (el g.p a))) (is-g : Is g.p g0 ((Z g.p).neg (el g.p b))) {x : Divisor} (is_x : x ≡ of_four 11 f0 g0 0 0) where
@@ -63,10 +63,10 @@ module _ {g : Ground} (a b : ℕ) where
       inside : (c : List ℕ) (o : On c g) → InField c (a, b)
       inside c o = (at_ground c o).1 in_field
 
-      pub pair_off : t ≡ false → OnCurves g (λ c. PairRead c (a, b) (answer.Refused 9))
+      pub pair_off : t ≡ false → OnCurves g (λ c. PairRead c (a, b) (Err refusal.NoBasis))
       pair_off e c o = inr (inside c o, inl (λ h. (tested c o).fails e (point-basis c o.accepted (a, b) h), refl))
 
-      pub pair_on : t ≡ true → OnCurves g (λ c. PairRead c (a, b) (answer.Divisor x))
+      pub pair_on : t ≡ true → OnCurves g (λ c. PairRead c (a, b) (Ok x))
       pair_on e c o = ((inside c o, on), subst (GivenOn c (point_record c (a, b))) (sym (value_is c o)) given)
         where
           on : OnCurve c (a, b)

@@ -6,36 +6,31 @@ ghost use Rattle.algebra.specs.Answers.{Answers};
 ghost use Rattle.classes.specs.Found.{Curved, OnCurves};
 ghost use Rattle.pair.specs.Contract.{PairRead};
 
+use basis::Divisor;
 use ground::Ground;
-use reader::DivisorAnswer;
+use refusal::Refusal;
 
 // Are both coordinates below p?
 fn in_field(p: u32, a: u32, b: u32) -> bool
     ensures { Answers ((a < p) × (b < p)) result }
 {
-    if p <= a {
-        return false;
-    }
-    if p <= b {
-        return false;
-    }
-    true
+    a < p && b < p
 }
 
 // The point (a, b): 8 for a coordinate that is not below p, then 9 for a pair off the curve. The record of the pair is a basis exactly if the
 // pair is on the curve.
-pub fn read_pair(g: Ground, a: u32, b: u32) -> DivisorAnswer
+pub fn read_pair(g: Ground, a: u32, b: u32) -> Result<Divisor, Refusal>
     requires { Curved g }
     ensures { OnCurves g (λ c. PairRead c (a, b) result) }
 {
     if !in_field(g.p, a, b) {
-        return DivisorAnswer::Refused(8);
+        return Err(Refusal::Number);
     }
     let f0 = field::neg(g.p, a);
     let g0 = field::neg(g.p, b);
     let x = basis::of_four(11, f0, g0, 0, 0);
     if !basis::is_basis(g.p, &g.cube, x) {
-        return DivisorAnswer::Refused(9);
+        return Err(Refusal::NoBasis);
     }
-    DivisorAnswer::Divisor(x)
+    Ok(x)
 }

@@ -1,22 +1,10 @@
--- The length first, and then the records.
-use mathlib.Core.Path.{refl}
-use mathlib.Core.Logic.{inl}
-use native.Mathlib.Omega.{arith}
-use mathlib.Core.List.{[], ◌∷◌}
-use lib.ListN.{length}
-use Prim.Native.Nat.{◌≤◌}
-use Rattle.record.specs.Cause.{must}
-use Rattle.record.specs.Curve.{modulus, equation}
-use Rattle.record.specs.Listed.{list_stage, list_limit}
-use Rattle.lists.specs.Totals.{SumOfList}
-use Rattle.lists.proofs.Next.{found-next}
+-- Each step adds the next divisor.
+use Rattle.std.proofs.Common.{rules}
+use Rattle.lists.proofs.Lists.{sum-asked, found-sum}
 use Rattle.lists.proofs.list_sum_on.Goals as goal
 
-pub returns-then-list-gt-LIST_LIMIT : goal.returns-then-list-gt-LIST_LIMIT
-returns-then-list-gt-LIST_LIMIT c k o = inl (λ h. omega (arith, c.if-list-gt-LIST_LIMIT.true), refl)
+pub fold_records-requires-clause-callable : goal.fold_records-requires-clause-callable
+fold_records-requires-clause-callable c a x h = sum-asked (λ a b x m. search rules) c.zero_class.ensures c.requires h
 
 pub returns : goal.returns
-returns c k o =
-    let s = c.args.list.now in
-    found-next k (must 11 (length s ≤ list_limit)) (list_stage (modulus k) (equation k) s ∷ []) c.if-list-gt-LIST_LIMIT.false (SumOfList k s) c.total.result
-    (c.total.ensures k o)
+returns c = found-sum (λ a b x m. search rules) c.zero_class.ensures _ _ c.fold_records.ensures
