@@ -3,8 +3,6 @@
 
 ghost use Rattle.bench_short.specs.Contract.{Shortens};
 
-use kind::Kind;
-
 // Writes the short form of a record whose numbers are below p, and returns its length; 0 for other bytes and for a buffer under 40 bytes.
 #[unsafe(no_mangle)]
 pub extern "C" fn bench_shorten(p: u32, divisor: &[u8], out: &mut [u8]) -> u32
@@ -13,13 +11,10 @@ pub extern "C" fn bench_shorten(p: u32, divisor: &[u8], out: &mut [u8]) -> u32
     if out.len() < reader::ROOM {
         return 0;
     }
-    if form::divisor_form(divisor) != 0 {
+    if form::divisor_form(divisor).is_err() {
         return 0;
     }
-    let Ok(kind) = Kind::try_from(layout::read_u16(divisor, 2)) else {
-        return 0;
-    };
-    let x = checks::value(kind, divisor);
+    let x = checks::value(divisor);
     if !checks::all_below(p, x) {
         return 0;
     }

@@ -1,7 +1,6 @@
 -- What the call does with what was found.
---   found-curve, found-refused     the reduced curve, or the cause
 --   wrote                  the reduced curve's record is written
-use mathlib.Core.Path.{◌≡◌, sym, ap, ◌∙◌, subst}
+use mathlib.Core.Path.{◌≡◌, sym, ap, ◌∙◌}
 use mathlib.Core.List.{List, ◌∷◌, ◌++◌}
 use Prim.Native.Nat.{ℕ, ◌≤◌}
 use native.Mathlib.Omega.{arith}
@@ -13,23 +12,14 @@ use lib.IntN.{pos}
 use Rattle.equation.specs.declared.Equation.{Equation}
 use Rattle.layout.specs.Layout.{record_bytes}
 use Rattle.layout.proofs.Bytes.{length_record}
-use Rattle.record.specs.Cause.{FirstCause}
 use Rattle.record.specs.Curve.{curve_kind, curve_size}
 use Rattle.record.specs.Fractions.{fractions_stages}
 use Rattle.checks.specs.Contract.{equation_numbers}
-use Rattle.reader.specs.declared.CurveAnswer.{CurveAnswer}
-use Rattle.reader.specs.declared.CurveAnswer.TheVariants as curve
 use Rattle.calls.specs.Call.{ReduceCurve}
 use Rattle.calls.proofs.Answers.{writes_enough}
-use Rattle.fractions.specs.Contract.{ReducedTo, ReduceFound}
+use Rattle.fractions.specs.Contract.{ReducedTo}
 
 module _ (s : List ℕ) (p : ℕ) where
-  pub found-curve : (r : CurveAnswer) → ReduceFound s p r → (e : Equation) → r ≡ curve.Curve e → ReducedTo s p e
-  found-curve r h e q = subst (ReduceFound s p) q h
-
-  pub found-refused : (r : CurveAnswer) → ReduceFound s p r → (n : ℕ) → r ≡ curve.Refused n → FirstCause (fractions_stages s p) n
-  found-refused r h n q = subst (ReduceFound s p) q h
-
   pub wrote : (e : Equation) → ReducedTo s p e → {out out' : List ℕ} {n : ℕ} → curve_size ≤ length out → n ≡ curve_size
       → out' ≡ record_bytes curve_kind (e.p ∷ equation_numbers e) ++ drop curve_size out → ReduceCurve s p out (to_z w32 n) out'
   wrote e f {out} {out'} {n} l m h =

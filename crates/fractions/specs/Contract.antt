@@ -1,16 +1,16 @@
 -- What the functions on records of fractions require and ensure.
 --   equation_from p c      the equation with the nine coefficients c
 --   ReducedTo s p e        e is the equation of the reduced curve, and what is checked is passed
---   ReduceFound s p a      reduce: the equation of the reduced curve, or the number of the first cause
-use Rattle.std.specs.Prelude.{◌≡◌, List, ◌∷◌, ℕ, get_or}
+--   ReduceFound s p a      reduce: the equation of the reduced curve, or the first cause
+use Rattle.std.specs.Prelude.{◌≡◌, List, ◌∷◌, ℕ, get_or, Result, Ok, Err}
 use Rattle.equation.specs.declared.Equation.{Equation}
 use Rattle.layout.specs.Layout.{record_bytes}
+use Rattle.refusal.specs.Refusal.{number_of}
+use Rattle.refusal.specs.declared.Refusal.{Refusal}
 use Rattle.record.specs.Cause.{FirstCause, Passes}
 use Rattle.record.specs.Curve.{curve_kind}
 use Rattle.record.specs.Fractions.{AcceptedReduced, fractions_stages}
 use Rattle.checks.specs.Contract.{equation_numbers}
-use Rattle.reader.specs.declared.CurveAnswer.{CurveAnswer}
-use Rattle.reader.specs.declared.CurveAnswer.TheVariants as curve
 
 abbrev pub equation_from : ℕ → List ℕ → Equation
 equation_from p c =
@@ -33,6 +33,6 @@ pub record ReducedTo (s : List ℕ) (p : ℕ) (e : Equation) : Type 0 where
   pub modulus : e.p ≡ p
   pub accepted : AcceptedReduced s p (record_bytes curve_kind (p ∷ equation_numbers e))
 
-abbrev pub ReduceFound : (s : List ℕ) (p : ℕ) → CurveAnswer → Type 0
-ReduceFound s p (curve.Curve e) = ReducedTo s p e
-ReduceFound s p (curve.Refused n) = FirstCause (fractions_stages s p) n
+abbrev pub ReduceFound : (s : List ℕ) (p : ℕ) → Result Equation Refusal → Type 0
+ReduceFound s p (Ok e) = ReducedTo s p e
+ReduceFound s p (Err e) = FirstCause (fractions_stages s p) (number_of e)

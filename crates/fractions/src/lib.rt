@@ -9,7 +9,7 @@ ghost use Rattle.calls.specs.Call.{ReduceCurve};
 ghost use Rattle.fractions.specs.Contract.{equation_from, ReduceFound};
 
 use equation::Equation;
-use reader::CurveAnswer;
+use refusal::Refusal;
 
 // The least length of the result buffer: that of a curve record.
 const ROOM: usize = 44;
@@ -50,44 +50,41 @@ fn equation_from(p: u32, c: [u32; 9]) -> Equation
     }
 }
 
-// The equation of the reduced curve, or the number of the first cause of refusal before the result buffer. The prime p divides a
+// The equation of the reduced curve, or the first cause of refusal before the result buffer. The prime p divides a
 // denominator exactly if the product of all is 0 modulo p.
-fn reduce(s: &[u8], p: u32) -> CurveAnswer
+fn reduce(s: &[u8], p: u32) -> Result<Equation, Refusal>
     ensures { ReduceFound s.now p result }
 {
     if !has_form(s) {
-        return CurveAnswer::Refused(12);
+        return Err(Refusal::Fractions);
     }
     if !reader::is_modulus(p) {
-        return CurveAnswer::Refused(3);
+        return Err(Refusal::Modulus);
     }
     let d = quotients::residues(s, p);
     let before = quotients::products(p, d);
     if before[9] == 0 {
-        return CurveAnswer::Refused(13);
+        return Err(Refusal::Denominator);
     }
     let c = quotients::quotients(s, p, d, before);
     let e = equation_from(p, c);
     if !reader::is_nonsingular(e) {
-        return CurveAnswer::Refused(5);
+        return Err(Refusal::Singular);
     }
-    CurveAnswer::Curve(e)
+    Ok(e)
 }
 
 // The curve record of a record of fractions modulo p.
 pub fn reduce_curve(fractions: &[u8], p: u32, out: &mut [u8]) -> i32
     ensures { ReduceCurve fractions.now p out.old result out.new }
 {
-    let found = reduce(fractions, p);
-    match found {
-        CurveAnswer::Curve(e) => {
-            if out.len() < ROOM {
-                return reply::refusal(10);
-            }
+    match reduce(fractions, p) {
+        Ok(_) if out.len() < ROOM => reply::refusal(Refusal::Room),
+        Ok(e) => {
             let ns = [e.p, e.c0, e.c1, e.c2, e.c3, e.c4, e.c5, e.c6, e.c7, e.c8];
             let n = writing::write_record(out, 34, &ns);
             n as i32
         }
-        CurveAnswer::Refused(n) => reply::refusal(n),
+        Err(cause) => reply::refusal(cause),
     }
 }

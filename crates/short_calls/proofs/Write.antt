@@ -1,48 +1,36 @@
 -- The short record of a divisor that was found is written.
---   shaped_of              a divisor that was found has numbers below p
 --   write_fits, wrote      its short record is written
---   wrote_answer           … of the answer that was matched
-use mathlib.Core.Path.{◌≡◌, sym, ◌∙◌, ap, subst}
+use mathlib.Core.Path.{◌≡◌, sym, ◌∙◌, ap}
 use mathlib.Core.List.{List, ◌++◌}
 use Prim.Native.Nat.{ℕ, ◌≤◌}
 use native.Mathlib.Omega.{arith}
 use lib.ListN.{length, take, drop}
-use lib.IntN.{ℤ, pos}
+use lib.IntN.{pos}
 use mir.Syntax.{w32}
 use mir.Val.{SFits, to_z}
 use mir.Facts.{to_z_pos}
-use Rattle.divisor.specs.Kind.{count}
+use Rattle.divisor.specs.Kind.{Kind, code, count}
 use Rattle.divisor.proofs.Codes.{count_small}
 use Rattle.basis.specs.Divisor.{numbers_of, Shaped}
 use Rattle.basis.specs.declared.Divisor.{Divisor}
-use Rattle.reader.specs.declared.DivisorAnswer.{DivisorAnswer}
-use Rattle.reader.specs.declared.DivisorAnswer.TheVariants as answer
 use Rattle.calls.specs.Answer.{Gives}
 use Rattle.short.specs.Short.{short_size}
 use Rattle.short.proofs.Width.{body-most}
 use Rattle.short.proofs.Accepted.{short_length}
 use Rattle.short_writer.specs.Contract.{short_of_value, ShortWriteAnswer}
-use Rattle.short_calls.specs.Contract.{ShortWritable, ShortWrote}
-
-pub shaped_of : (p : ℕ) (r : DivisorAnswer) {x : Divisor} → ShortWritable p r → r ≡ answer.Divisor x → Shaped p x.kind x
-shaped_of p r h e = subst (ShortWritable p) e h
 
 module _ (p : ℕ) (fits : p ≤ 4294967296) (x : Divisor) (out out' : List ℕ) (n : ℕ) (a : ShortWriteAnswer p x out out' n) where
-  small : n ≤ 40
-  small = omega (arith, a.long, body-most p x.kind fits, count_small x.kind)
+  small : (κ : Kind) → x.kind ≡ code κ → n ≤ 40
+  small κ e = omega (arith, (a κ e).long, body-most p κ fits, count_small κ)
 
-  pub write_fits : SFits w32 (pos n)
-  write_fits = record { sfits = omega (arith, small) }
+  pub write_fits : (κ : Kind) × Shaped p κ x → SFits w32 (pos n)
+  write_fits (κ, h) = record { sfits = omega (arith, small κ h.kind) }
 
-  pub wrote : Gives (short_of_value p x.kind x) out (to_z w32 n) out'
-  wrote = (
-    to_z_pos w32 {n = n} (omega (arith, small)) ∙ ap pos (a.long ∙ long),
-    a.bytes ∙ ap (λ (m : ℕ). short_of_value p x.kind x ++ drop m out) long,
+  pub wrote : (κ : Kind) → x.kind ≡ code κ → Gives (short_of_value p κ x) out (to_z w32 n) out'
+  wrote κ e = (
+    to_z_pos w32 {n = n} (omega (arith, small κ e)) ∙ ap pos ((a κ e).long ∙ long),
+    (a κ e).bytes ∙ ap (λ (m : ℕ). short_of_value p κ x ++ drop m out) long,
   )
     where
-      long : short_size p x.kind ≡ length (short_of_value p x.kind x)
-      long = sym (short_length p x.kind (take (count x.kind) (numbers_of x)))
-
--- the answer as read of an enum
-pub wrote_answer : (p : ℕ) (out : List ℕ) (n : ℤ) (out' : List ℕ) (r s : DivisorAnswer) → r ≡ s → ShortWrote p s out n out' → ShortWrote p r out n out'
-wrote_answer p out n out' r s e h = subst (λ (d : DivisorAnswer). ShortWrote p d out n out') (sym e) h
+      long : short_size p κ ≡ length (short_of_value p κ x)
+      long = sym (short_length p κ (take (count κ) (numbers_of x)))

@@ -1,49 +1,33 @@
--- The curve, the divisor on its ground, and the buffer.
+-- The divisor is read on the curve, and its short record is written with the curve's modulus; a short buffer and a refusal return.
 use mathlib.Core.Path.{refl, ◌∙◌}
 use native.Mathlib.Omega.{arith}
-use Rattle.record.specs.Curve.{curve_stages, accepted_limit}
-use Rattle.reader.specs.Reading.{DivisorRead}
-use Rattle.reader.proofs.Ground.{curve-passes, curve-asked, curve_on, curve-cause, grounded_on, at-curve}
+use Rattle.std.proofs.Common.{rules}
+use Rattle.calls.proofs.Answers.{writes_refused, writes_short}
+use Rattle.calls.specs.Call.{room}
+use Rattle.classes.specs.Made.{one_stages}
+use Rattle.classes.proofs.Made.{one-passes}
 use Rattle.reply.proofs.Number.{kept}
-use Rattle.answer.proofs.Curve.{writes_curve}
-use Rattle.short_calls.proofs.Found.{read_modulus, short_writable, short_writes}
+use Rattle.short_calls.proofs.Found.{write_asked, cast_fits, short_writes}
 use Rattle.short_calls.proofs.shorten.Goals as goal
 
-pub of-g-requires : goal.of-g-requires
-of-g-requires c =
-    let read = c.read_curve-read in
-    curve-asked c.args.curve.now read.result read.ensures _ c.in-Curve.is
+pub returns-in-Ok : goal.returns-in-Ok
+returns-in-Ok c =
+    writes_short {least = room} (one_stages c.args.curve.now c.args.divisor.now) (one-passes c.in-Ok.ensures) (omega arith)
+    (kept c.refusal.result c.refusal.type_inv ∙ c.refusal.ensures) refl
 
-pub read_divisor-found-requires : goal.read_divisor-found-requires
-read_divisor-found-requires c =
-    let k = c.args.curve.now in
-    let read = c.read_curve-read in
-    grounded_on (curve_on k read.result read.ensures _ c.in-Curve.is _ c.of-g.ensures)
+pub write_short-requires : goal.write_short-requires
+write_short-requires c =
+    write_asked c.args.curve.now c.args.divisor.now (λ g x t p. search rules) c.in-Ok.ensures (omega arith)
 
-pub short_written-requires : goal.short_written-requires
-short_written-requires c =
-    let k = c.args.curve.now in
-    let a = c.args.divisor.now in
-    let read = c.read_curve-read in
-    let is = c.in-Curve.is in
-    let o = curve_on k read.result read.ensures _ is _ c.of-g.ensures in
-    let found = c.read_divisor-found in
-    short_writable k a _ (read_modulus k read.result read.ensures _ is) found.result (at-curve o (λ p C. DivisorRead p C a found.result) found.ensures)
+pub overflow_cast-result : goal.overflow_cast-result
+overflow_cast-result c =
+    cast_fits c.args.curve.now c.args.divisor.now (λ g x t p. search rules) c.in-Ok.ensures c.write_short.ensures
 
-pub returns-in-Curve : goal.returns-in-Curve
-returns-in-Curve c =
-    let k = c.args.curve.now in
-    let a = c.args.divisor.now in
-    let read = c.read_curve-read in
-    let is = c.in-Curve.is in
-    let o = curve_on k read.result read.ensures _ is _ c.of-g.ensures in
-    let found = c.read_divisor-found in
-    short_writes k a _ (read_modulus k read.result read.ensures _ is) (omega (arith, accepted_limit k o.accepted)) _ found.result (curve-passes k read.result read.ensures _ is)
-    (at-curve o (λ p C. DivisorRead p C a found.result) found.ensures)
-    c.short_written.ensures (kept c.short_written.result c.short_written.type_inv)
+pub returns-in-Ok-2 : goal.returns-in-Ok-2
+returns-in-Ok-2 c =
+    short_writes c.args.curve.now c.args.divisor.now (λ g x t p. search rules) c.in-Ok.ensures (omega arith) c.write_short.ensures
 
-pub returns-in-Refused : goal.returns-in-Refused
-returns-in-Refused c =
-    let k = c.args.curve.now in
-    let read = c.read_curve-read in
-    writes_curve (curve_stages k) _ _ (curve-cause k read.result read.ensures _ c.in-Refused.is) (kept c.refusal.result c.refusal.type_inv ∙ c.refusal.ensures) refl
+pub returns-in-Err : goal.returns-in-Err
+returns-in-Err c =
+    writes_refused (one_stages c.args.curve.now c.args.divisor.now) _ c.in-Err.ensures
+    (kept c.refusal-in-Err.result c.refusal-in-Err.type_inv ∙ c.refusal-in-Err.ensures) refl
