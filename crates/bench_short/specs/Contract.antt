@@ -5,7 +5,7 @@ use Rattle.std.specs.Prelude.{◌≡◌, ◌⊎◌, List, ℕ, ◌≤◌, length
 use Rattle.basis.specs.Divisor.{numbers_of}
 use Rattle.basis.specs.declared.Divisor.{Divisor}
 use Rattle.record.specs.Cause.{Passes}
-use Rattle.record.specs.Divisor.{divisor_form}
+use Rattle.record.specs.Divisor.{OfKind, divisor_form}
 use Rattle.checks.specs.Contract.{AllBelow, ValueOf}
 use Rattle.calls.specs.Call.{room}
 use Rattle.short_writer.specs.Contract.{ShortWriteAnswer}
@@ -13,7 +13,8 @@ use Rattle.short_writer.specs.Contract.{ShortWriteAnswer}
 pub record Fit (p : ℕ) (a out : List ℕ) (x : Divisor) : Type 0 where
   pub enough : room ≤ length out
   pub form : Passes (divisor_form a)
-  pub value : ValueOf a x
+  pub kind : OfKind a x.kind
+  pub value : ValueOf x.kind a x
   pub below : AllBelow p (numbers_of x)
 
 abbrev pub Shortens : (p : ℕ) (a out : List ℕ) → ℕ → List ℕ → Type 0

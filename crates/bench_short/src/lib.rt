@@ -11,10 +11,10 @@ pub extern "C" fn bench_shorten(p: u32, divisor: &[u8], out: &mut [u8]) -> u32
     if out.len() < reader::ROOM {
         return 0;
     }
-    if form::divisor_form(divisor).is_err() {
+    let Ok(kind) = form::divisor_form(divisor) else {
         return 0;
-    }
-    let x = checks::value(divisor);
+    };
+    let x = checks::value(kind, divisor);
     if !checks::all_below(p, x) {
         return 0;
     }

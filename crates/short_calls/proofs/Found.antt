@@ -29,6 +29,7 @@ use Rattle.record.specs.Divisor.{OfKind}
 use Rattle.record.proofs.Cause.{first_append}
 use Rattle.record.proofs.Written.{bytes_of-kind, bytes_of-number}
 use Rattle.reader.specs.Reading.{On, GivenOn, done}
+use Rattle.reader.proofs.Answer.{given-bytes}
 use Rattle.reader.proofs.Ground.{at-curve}
 use Rattle.calls.specs.Call.{room}
 use Rattle.calls.proofs.Answers.{writes_enough}
@@ -43,7 +44,7 @@ use Rattle.short_calls.proofs.Write.{write_fits, wrote}
 
 module _ (c a : List ℕ) (x : Divisor) (small : modulus c ≤ 4294967296) (g : GivenOn c a x) where
   abbrev κ : Kind
-  κ = g.kind
+  κ = x.kind
 
   -- the numbers of the record are those of the value
   given-numbers : numbers a 4 (count κ) ≡ take (count κ) (numbers_of x)
@@ -57,14 +58,14 @@ module _ (c a : List ℕ) (x : Divisor) (small : modulus c ≤ 4294967296) (g : 
       (λ i l.
       let few : i < count κ = omega (arith, length_numbers a 4 (count κ)) in
       numbers-at a 4 (count κ) i few
-      ∙ ap (λ (s : List ℕ). number4 s (4 + 4 * i)) (sym g.bytes)
+      ∙ ap (λ (s : List ℕ). number4 s (4 + 4 * i)) (sym (given-bytes g))
       ∙ bytes_of-number κ x (λ j. omega (arith, g.based.shaped.below j)) i few
       ∙ sym (get_or-take (count κ) (numbers_of x) i 0 few))
 
   given-short : IsShort c a (short_of_value (modulus c) κ x)
   given-short = (
     κ,
-    subst (λ (s : List ℕ). OfKind s κ) g.bytes (bytes_of-kind κ x),
+    subst (λ (s : List ℕ). OfKind s κ) (given-bytes g) (bytes_of-kind κ x),
     ap (short_bytes (modulus c) κ) (sym given-numbers),
   )
 
@@ -80,20 +81,20 @@ module _ (c a : List ℕ) {Post : Ground → Divisor → ℕ × Divisor → Type
   pub given : GivenOn c a x
   given = subst (GivenOn c a) (sym (ap (λ (t : ℕ × Divisor). t.1) is)) o.given
 
-  pub shaped : Shaped p given.kind x
-  shaped = subst (λ (q : ℕ). Shaped q given.kind x) (sym (ap (λ (t : ℕ × Divisor). t.0) is)) given.based.shaped
+  shaped : Shaped p x.kind x
+  shaped = subst (λ (q : ℕ). Shaped q x.kind x) (sym (ap (λ (t : ℕ × Divisor). t.0) is)) (record { kind = refl; below = given.based.shaped.below })
 
   pub write_asked : {out : List ℕ} → room ≤ length out → ShortWriteAsked p x out
-  write_asked l = record { kind = given.kind; shaped = shaped; enough = l }
+  write_asked l = record { shaped = shaped; enough = l }
 
   pub cast_fits : {out out' : List ℕ} {n : ℕ} → ShortWriteAnswer p x out out' n → SFits w32 (pos n)
-  cast_fits {out} {out'} {n} h = write_fits p fits x out out' n h (given.kind, shaped)
+  cast_fits {out} {out'} {n} h = write_fits p fits x out out' n h
 
   pub short_writes : {out out' : List ℕ} {n : ℕ} → room ≤ length out → ShortWriteAnswer p x out out' n → Shorten c a out (to_z w32 n) out'
   short_writes {out} {out'} {n} l h =
-      let z = wrote p fits x out out' n h given.kind shaped.kind in
-      writes_enough (one_stages c a) (one-passes o) (short_of_value p given.kind x) l
-      (subst (λ (q : ℕ). IsShort c a (short_of_value q given.kind x)) (sym (ap (λ (t : ℕ × Divisor). t.0) is))
+      let z = wrote p fits x out out' n h in
+      writes_enough (one_stages c a) (one-passes o) (short_of_value p x.kind x) l
+      (subst (λ (q : ℕ). IsShort c a (short_of_value q x.kind x)) (sym (ap (λ (t : ℕ × Divisor). t.0) is))
       (given-short c a x (omega (arith, accepted_limit c o.on.accepted)) given))
       z.0 z.1
 
