@@ -1,6 +1,6 @@
 -- The constant table of normal monomials of pole number up to 25, by pole number. At place n stands the normal monomial x^i·y^j of pole number n:
 -- in y_powers its power of y, which is j, and in x_poles the pole number of its power of x, which is 3·i. At a gap stand 3 and 0. Document 01:
--- "constant table of normal monomials with pole numbers". The code reads it as Y_POWER and X_POLE of crate terms.
+-- "constant table of normal monomials with pole numbers". The code holds it as MONOMIALS of crate terms.
 --   y_powers, x_poles  the table
 --   y_at n, x_at n     its entry at n
 use Rattle.std.specs.Prelude.{List, [], ◌∷◌, ℕ, get_or}
