@@ -12,12 +12,11 @@ use native.Mathlib.Omega.{arith}
 use lib.ListN.{get_or, take}
 use Rattle.algebra.specs.Ring.{CommRing}
 use Rattle.algebra.proofs.Laws.{neg-zero, neg-neg}
-use Rattle.prime.specs.Prime.{Prime}
 use Rattle.field.specs.Residue.{Z, el}
 use Rattle.field.proofs.Element.{el-zero, el_inj}
 use Rattle.field.proofs.Invert.{prime-large}
 use Rattle.curve.specs.Curve.{Curve}
-use Rattle.divisor.specs.Kind.{Kind, k31, code}
+use Rattle.divisor.specs.Kind.{k31, code}
 use Rattle.columns.specs.Pivots.{pivot_sum, pivot_double}
 use Rattle.layout.specs.Layout.{number4, record_bytes}
 use Rattle.equation.specs.Equation.{curve_of}
@@ -25,7 +24,7 @@ use Rattle.ground.specs.declared.Ground.{Ground}
 use Rattle.basis.specs.declared.Divisor.{Divisor}
 use Rattle.basis.specs.Divisor.{numbers_of, residues, BasisValue}
 use Rattle.basis.proofs.Choice.{only}
-use Rattle.record.specs.Curve.{modulus, coefficient_number, equation, limit, accepted_prime, accepted_limit, accepted_below}
+use Rattle.record.specs.Curve.{modulus, equation, limit, accepted_prime, accepted_below}
 use Rattle.record.specs.Divisor.{OfKind, number_at}
 use Rattle.record.specs.Value.{bytes_of}
 use Rattle.record.proofs.Written.{bytes_of-kind, bytes_of-number}
@@ -35,7 +34,7 @@ use Rattle.reader.specs.Reading.{On, GivenOn}
 use Rattle.usual.specs.Contract.{IsLower}
 use Rattle.usual.proofs.Matrices.{lower-is}
 use Rattle.entries.specs.Contract.{lower_of}
-use Rattle.calls.specs.Quick.{Typical, Short, Pivots}
+use Rattle.calls.specs.Quick.{Typical, Short}
 use Rattle.quick.specs.Served.{ShortGround, TypicalValue}
 
 -- what a divisor of kind 31 is, its kind in hand
