@@ -22,7 +22,7 @@ use Rattle.prime.specs.Prime.{Prime}
 use Rattle.ground.specs.declared.Ground.{Ground}
 use Rattle.basis.specs.Divisor.{Shaped}
 use Rattle.basis.specs.declared.Divisor.{Divisor}
-use Rattle.record.specs.Curve.{modulus, accepted_prime}
+use Rattle.record.specs.Curve.{accepted_prime}
 use Rattle.roots.specs.declared.Cubic.{Cubic}
 use Rattle.roots.specs.Contract.{RootAsked, RootFound}
 use Rattle.eliminants.specs.Contract.{EliminantAsked, EliminantAtAsked, Coefficients, InX, InY}

@@ -12,7 +12,6 @@ use native.Mathlib.Omega.{arith}
 use lib.ListN.{get_or, take}
 use Rattle.algebra.specs.Ring.{CommRing}
 use Rattle.algebra.proofs.Laws.{neg-zero, neg-neg}
-use Rattle.prime.specs.Prime.{Prime}
 use Rattle.field.specs.Residue.{Z, el}
 use Rattle.field.proofs.Element.{el-zero, el_inj}
 use Rattle.field.proofs.Invert.{prime-large}
@@ -34,7 +33,7 @@ use Rattle.reader.specs.Reading.{On, GivenOn}
 use Rattle.usual.specs.Contract.{IsLower}
 use Rattle.usual.proofs.Matrices.{lower-is}
 use Rattle.entries.specs.Contract.{lower_of}
-use Rattle.calls.specs.Quick.{Typical, Short, Pivots}
+use Rattle.calls.specs.Quick.{Typical, Short}
 use Rattle.quick.specs.Served.{ShortGround, TypicalValue}
 
 -- what a divisor of kind 31 is, its kind in hand

@@ -5,27 +5,23 @@
 use mathlib.Core.Path.{◌≡◌, refl, sym, ◌∙◌, ap, subst}
 use mathlib.Core.Bool.{Bool, true, false, not, true≢false, false≢true}
 use mathlib.Core.List.{List}
-use Prim.Native.Nat.{ℕ, ◌<◌, ◌≤◌}
+use Prim.Native.Nat.{ℕ}
 use native.Mathlib.Omega.{arith}
 use Rattle.std.specs.Prelude.{Option, Some, None, is_some}
-use Rattle.algebra.specs.Ring.{CommRing}
 use Rattle.ideal.specs.Ideal.{SameIdeal, Product}
 use Rattle.ideal.specs.Reduced.{IsReduced}
 use Rattle.ideal.proofs.Same.{same_sym}
 use Rattle.ideal.proofs.Product.{product-same}
 use Rattle.ideal.proofs.Star.{reduced-same}
-use Rattle.field.specs.Residue.{Z, el}
+use Rattle.field.specs.Residue.{el}
 use Rattle.field.proofs.Element.{el-zero, el_inj}
 use Rattle.field.proofs.Invert.{prime-large}
-use Rattle.divisor.specs.Kind.{Kind, k31, IdealOf, IsBasis}
+use Rattle.divisor.specs.Kind.{Kind, k31, IdealOf}
 use Rattle.ground.specs.declared.Ground.{Ground}
 use Rattle.basis.specs.declared.Divisor.{Divisor}
-use Rattle.basis.specs.Divisor.{numbers_of, residues, BasisValue}
 use Rattle.usual.specs.Trial.{TriedAsked, TriedOf, TriedIs, HasPivots, Summed, Untypical, product_on}
-use Rattle.group.specs.Contract.{SumAsked}
-use Rattle.record.specs.Curve.{modulus, equation, limit, AcceptedCurve, accepted_prime, accepted_limit}
+use Rattle.record.specs.Curve.{modulus, equation, AcceptedCurve, accepted_prime, accepted_limit}
 use Rattle.record.specs.Divisor.{number_at}
-use Rattle.record.specs.Value.{bytes_of}
 use Rattle.record.proofs.Accepted.{ideal_reads, Reads, accepted_reads, same_kind}
 use Rattle.reader.specs.Reading.{On, GivenOn}
 use Rattle.reader.proofs.Ground.{ground-at, ground-is, grounded-at}
@@ -35,7 +31,7 @@ use Rattle.calls.proofs.Class.{reduced_on, sum_one}
 use Rattle.calls.proofs.Exists.{sum_record}
 use Rattle.classes.proofs.Values.{reduced-made, read_ideal}
 use Rattle.quick.specs.Served.{ShortGround, TypicalValue, ServedOn, ServedOf}
-use Rattle.quick.proofs.Records.{Given31, given_31, given-number, typical-there, typical-back, same-there, same_back, pivot_sum-is, pivot_double-is, short-there, short_back}
+use Rattle.quick.proofs.Records.{Given31, given_31, typical-there, typical-back, same-there, same_back, pivot_sum-is, pivot_double-is, short-there, short_back}
 
 pub denied : (b : Bool) → not b ≡ true → b ≡ false
 denied true e = absurd (false≢true e)
