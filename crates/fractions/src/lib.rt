@@ -18,17 +18,7 @@ const ROOM: usize = 44;
 fn has_form(s: &[u8]) -> bool
     ensures { Answers (FractionsForm s.now) result }
 {
-    if !form::sized(s) {
-        return false;
-    }
-    let kind = layout::read_u16(s, 2);
-    if kind != 36 {
-        return false;
-    }
-    if s.len() != 76 {
-        return false;
-    }
-    true
+    form::sized(s) && layout::read_u16(s, 2) == 36 && s.len() == 76
 }
 
 // The equation with the nine coefficients c, modulo p.
