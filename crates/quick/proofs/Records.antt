@@ -23,7 +23,7 @@ use Rattle.equation.specs.Equation.{curve_of}
 use Rattle.ground.specs.declared.Ground.{Ground}
 use Rattle.basis.specs.declared.Divisor.{Divisor}
 use Rattle.basis.specs.Divisor.{numbers_of, residues, BasisValue}
-use Rattle.record.specs.Curve.{modulus, coefficient_number, equation, limit, accepted_prime, accepted_limit, accepted_below}
+use Rattle.record.specs.Curve.{modulus, equation, limit, accepted_prime, accepted_below}
 use Rattle.record.specs.Divisor.{OfKind, number_at}
 use Rattle.record.specs.Value.{bytes_of}
 use Rattle.record.proofs.Written.{bytes_of-kind, bytes_of-number}
