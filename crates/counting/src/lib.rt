@@ -8,8 +8,8 @@ ghost use Rattle.report.specs.Input.{enough, ReportsRead};
 ghost use Rattle.printing.specs.Contract.{longest};
 ghost use Rattle.counting.specs.Contract.{Printable, PassPut, PrintedOn};
 
-use pass::PassAnswer;
-use reader::CurveAnswer;
+use pass::Pass;
+use refusal::Refusal;
 
 // The length of a curve's record.
 const CURVE_SIZE: usize = 44;
@@ -18,18 +18,18 @@ const CURVE_SIZE: usize = 44;
 pub const INPUT_ROOM: usize = CURVE_SIZE + reader::LIST_LIMIT + 1;
 
 // All that is printed for what was found of a list.
-fn put_pass(out: &mut [u8], p: PassAnswer) -> usize
-    requires printable { Printable p }
+fn put_pass(out: &mut [u8], found: Result<Pass, Refusal>) -> usize
+    requires printable { Printable found }
     requires longest_bound { longest ≤ length out.old }
-    ensures { PassPut p out.old result out.new }
+    ensures { PassPut found out.old result out.new }
 {
-    match p {
-        PassAnswer::All(x, t) => {
+    match found {
+        Ok(p) => {
             let mut sum = [0u8; reader::ROOM];
-            let size = reader::write_divisor(x, &mut sum);
-            printing::put_all(out, t, &sum[..size])
+            let size = reader::write_divisor(p.sum, &mut sum);
+            printing::put_all(out, p.tallies, &sum[..size])
         }
-        PassAnswer::Refused(n) => printing::put_refused(out, n),
+        Err(cause) => printing::put_refused(out, cause.number()),
     }
 }
 
@@ -38,25 +38,14 @@ fn put_report(out: &mut [u8], curve: &[u8], list: &[u8]) -> usize
     requires { longest ≤ length out.old }
     ensures { PrintedOn curve.now list.now out.old result out.new }
 {
-    let read = reader::read_curve(curve);
-    match read {
-        CurveAnswer::Curve(e) => {
-            let g = ground::of(e);
-            let found = pass::pass_on(g, list);
-            put_pass(out, found)
-        }
-        CurveAnswer::Refused(n) => printing::put_refused(out, n),
-    }
+    put_pass(out, reader::on_curve(curve, |g| pass::pass_on(g, list)))
 }
 
 // How many of n bytes are the curve: the length of its record, or all, if fewer.
 fn curve_end(n: usize) -> usize
     ensures { result ≡ min n curve_size }
 {
-    if n < CURVE_SIZE {
-        return n;
-    }
-    CURVE_SIZE
+    n.min(CURVE_SIZE)
 }
 
 // All that is printed for an input, put at the start of `out`; returns that part of `out`.
@@ -65,8 +54,8 @@ pub fn report<'a>(input: &[u8], out: &'a mut [u8]) -> &'a mut [u8]
     ensures { Report input.now result.now }
 {
     let end = curve_end(input.len());
-    let size = put_report(out, &input[0..end], &input[end..]);
-    &mut out[0..size]
+    let size = put_report(out, &input[..end], &input[end..]);
+    &mut out[..size]
 }
 
 // All that is printed for the standard input, of which the first n bytes of the buffer `read` were read; put and returned as by `report`.
@@ -77,5 +66,5 @@ pub fn report_read<'a>(read: &[u8], n: usize, out: &'a mut [u8]) -> &'a mut [u8]
     requires room_bound { 256 ≤ length out.old }
     ensures { ReportsRead read.now n result.now }
 {
-    report(&read[0..n], out)
+    report(&read[..n], out)
 }

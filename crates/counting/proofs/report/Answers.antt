@@ -11,6 +11,6 @@ returns c =
     let call = c.put_report-size in
     let end = c.curve_end-end in
     let input = c.args.input.now in
-    parts_reported input {m = end.result - 0} {k = call.result - 0} call.ensures end.ensures (omega arith)
+    parts_reported input {m = end.result} {k = call.result} call.ensures end.ensures (omega arith)
     (take_all (length input - end.result) (drop end.result input) (omega (arith, length-drop end.result input)))
     (omega arith)
