@@ -7,8 +7,8 @@ ghost use Rattle.report.specs.Input.{enough, ReportsRead};
 ghost use Rattle.printing.specs.Contract.{longest};
 ghost use Rattle.counting.specs.Contract.{Printable, PassPut, PrintedOn};
 
-use pass::PassAnswer;
-use reader::CurveAnswer;
+use pass::Pass;
+use refusal::Refusal;
 use text::Text;
 
 // The length of a curve's record.
@@ -18,18 +18,18 @@ const CURVE_SIZE: usize = 44;
 pub const INPUT_ROOM: usize = CURVE_SIZE + reader::LIST_LIMIT + 1;
 
 // All that is printed for what was found of a list.
-fn put_pass(text: &mut Text<'_>, p: PassAnswer)
-    requires printable { Printable p }
+fn put_pass(text: &mut Text<'_>, found: Result<Pass, Refusal>)
+    requires printable { Printable found }
     requires longest_bound { longest ≤ length text.old.free }
-    ensures { PassPut p text.old text.new }
+    ensures { PassPut found text.old text.new }
 {
-    match p {
-        PassAnswer::All(x, t) => {
+    match found {
+        Ok(p) => {
             let mut sum = [0u8; reader::ROOM];
-            let size = reader::write_divisor(x, &mut sum);
-            printing::put_all(text, t, &sum[..size])
+            let size = reader::write_divisor(p.sum, &mut sum);
+            printing::put_all(text, p.tallies, &sum[..size])
         }
-        PassAnswer::Refused(n) => printing::put_refused(text, n),
+        Err(cause) => printing::put_refused(text, cause.number()),
     }
 }
 
@@ -38,15 +38,7 @@ fn put_report(text: &mut Text<'_>, curve: &[u8], list: &[u8])
     requires { longest ≤ length text.old.free }
     ensures { PrintedOn curve.now list.now text.old text.new }
 {
-    let read = reader::read_curve(curve);
-    match read {
-        CurveAnswer::Curve(e) => {
-            let g = ground::of(e);
-            let found = pass::pass_on(g, list);
-            put_pass(text, found)
-        }
-        CurveAnswer::Refused(n) => printing::put_refused(text, n),
-    }
+    put_pass(text, reader::on_curve(curve, |g| pass::pass_on(g, list)))
 }
 
 // All that is printed for an input, put at the start of `out`; returns that part of `out`.
