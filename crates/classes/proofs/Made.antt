@@ -1,7 +1,7 @@
 -- What is found of what was made: the stages of the curve come before those of the divisors.
 --   one-passes, two_passes     they are passed
 --   one-found, two-found       a divisor by value that was made of divisors in bytes, or the first cause
---   done-found                 a divisor by value that was found on the ground of a curve, or the first cause
+--   done-found, done-cause     a divisor by value that was found on the ground of a curve, or the first cause
 use mathlib.Core.Path.{◌≡◌, sym, subst}
 use mathlib.Core.Logic.{inl, inr}
 use mathlib.Core.List.{List, ◌++◌}
@@ -11,7 +11,7 @@ use Rattle.ground.specs.declared.Ground.{Ground}
 use Rattle.basis.specs.declared.Divisor.{Divisor}
 use Rattle.refusal.specs.Refusal.{number_of}
 use Rattle.refusal.specs.declared.Refusal.{Refusal}
-use Rattle.record.specs.Cause.{Stage, Passes}
+use Rattle.record.specs.Cause.{Stage, FirstCause, Passes}
 use Rattle.record.specs.Curve.{curve_stages}
 use Rattle.record.proofs.Cause.{first_append, passes_append}
 use Rattle.reader.specs.Reading.{On, GivenOn, DoneOn, refused, done}
@@ -54,3 +54,11 @@ module _ (c : List ℕ) (ss : List Stage) (Good : List ℕ → Type 0) where
       → ((g : Ground) → On c g → Post g r → Found c ss Good r) → DoneOn c Post r → Found c (curve_stages c ++ ss) Good r
   done-found r each (refused e f q) = subst (Found c (curve_stages c ++ ss) Good) (sym q) ((first_append (curve_stages c) ss (number_of e)).1 (inl f))
   done-found r each (done g o p) = found-behind r o (each g o p)
+
+-- the cause for which a list or a divisor is refused on the ground of a curve, or that of the curve
+pub done-cause : {T : Type 0} {c : List ℕ} {Post : Ground → Result T Refusal → Type 0} (ss : List Stage) (e : Refusal)
+    → ((g : Ground) → On c g → Post g (Err e) → FirstCause ss (number_of e)) → DoneOn c Post (Err e) → FirstCause (curve_stages c ++ ss) (number_of e)
+done-cause {T} {c} ss e each (refused k f q) =
+    let is : k ≡ e = cc in
+    (first_append (curve_stages c) ss (number_of e)).1 (inl (subst (λ (x : Refusal). FirstCause (curve_stages c) (number_of x)) is f))
+done-cause {T} {c} ss e each (done g o p) = (first_append (curve_stages c) ss (number_of e)).1 (inr (o.accepted, each g o p))

@@ -11,7 +11,6 @@ use mathlib.Core.Path.{refl, sym, subst}
 use mathlib.Core.List.{List}
 use Prim.Native.Nat.{ℕ, zero, suc}
 use lib.ListN.{replicate}
-use Rattle.algebra.specs.Ring.{CommRing}
 use Rattle.ideal.specs.Ideal.{ProductOf, SameIdeal}
 use Rattle.ideal.specs.Reduced.{IsStar, IsReduced}
 use Rattle.ideal.proofs.Same.{same_refl}

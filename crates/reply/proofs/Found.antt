@@ -2,8 +2,6 @@
 --   writable               a divisor that was found has the number of a kind
 --   writes_found           a divisor that was found is written, or the call is refused
 --   one-writable, one-writes, two-writable, two-writes     a divisor that was made of divisors is written, or the call is refused
---   one-returns, two-returns   a number that was made of divisors is returned, or the call is refused
-use mathlib.Core.Path.{◌≡◌, sym, subst}
 use mathlib.Core.List.{List}
 use Prim.Native.Nat.{ℕ, ◌<◌}
 use native.Mathlib.Omega.{arith}
@@ -17,13 +15,13 @@ use Rattle.refusal.specs.Refusal.{number_of}
 use Rattle.refusal.specs.declared.Refusal.{Refusal}
 use Rattle.record.specs.Cause.{Stage}
 use Rattle.reader.specs.Reading.{On, GivenOn}
-use Rattle.calls.specs.Answer.{Writes, Returns, refused, answered}
+use Rattle.calls.specs.Answer.{Writes}
 use Rattle.calls.specs.Call.{room}
 use Rattle.calls.proofs.Answers.{writes_refused, writes_short, writes_enough}
 use Rattle.classes.specs.Found.{Found}
 use Rattle.classes.specs.Made.{one_stages, two_stages, OneMade, TwoMade}
-use Rattle.classes.proofs.Made.{one-passes, two_passes, Made, one-found, two-found}
-use Rattle.reply.specs.Written.{Writable, Wrote, Returned}
+use Rattle.classes.proofs.Made.{Made, one-found, two-found}
+use Rattle.reply.specs.Written.{Writable, Wrote}
 
 module _ (c : List ℕ) (ss : List Stage) (Good : List ℕ → Type 0) where
   pub writable : (r : Result Divisor Refusal) → Found c ss Good r → Writable r
@@ -60,15 +58,3 @@ module _ {c a b : List ℕ} {Post : Ground → Divisor → Divisor → Divisor �
   pub two-writes : {out out' : List ℕ} {n : ℤ} (r : Result Divisor Refusal) → TwoMade c a b Post r → Wrote r out n out'
       → Writes room (two_stages c a b) Good out n out'
   two-writes r m h = writes_found c (two_stages c a b) Good r (two-found Good each r m) h
-
-module _ {c a : List ℕ} {Post : Ground → Divisor → ℤ → Type 0} (Good : ℤ → Type 0)
-    (each : (g : Ground) (x : Divisor) (n : ℤ) → On c g → GivenOn c a x → Post g x n → Good n) where
-  pub one-returns : (r : Result ℤ Refusal) {n : ℤ} → OneMade c a Post r → Returned r n → Returns (one_stages c a) Good n
-  one-returns (Ok m) o e = answered (one-passes o) (subst Good (sym e) (each o.ground o.value m o.on o.given o.made))
-  one-returns (Err k) f e = refused (number_of k) f e
-
-module _ {c a b : List ℕ} {Post : Ground → Divisor → Divisor → ℤ → Type 0} (Good : ℤ → Type 0)
-    (each : (g : Ground) (x y : Divisor) (n : ℤ) → On c g → GivenOn c a x → GivenOn c b y → Post g x y n → Good n) where
-  pub two-returns : (r : Result ℤ Refusal) {n : ℤ} → TwoMade c a b Post r → Returned r n → Returns (two_stages c a b) Good n
-  two-returns (Ok m) o e = answered (two_passes o) (subst Good (sym e) (each o.ground o.first o.second m o.on o.given o.given_second o.made))
-  two-returns (Err k) f e = refused (number_of k) f e

@@ -1,7 +1,6 @@
--- What the functions on what was found require and ensure.
+-- What `written` requires and ensures.
 --   Writable r             a divisor by value has the number of a kind
 --   Wrote r out n out'     a divisor is written at the start of a buffer that has room; a short buffer and a refusal leave it as it was
---   Returned r n           a number that was found is returned, and for a refusal minus its number
 use Rattle.std.specs.Prelude.{◌≡◌, List, ℕ, ◌<◌, ◌≤◌, length, ℤ, Result, Ok, Err}
 use Rattle.basis.specs.declared.Divisor.{Divisor}
 use Rattle.refusal.specs.Refusal.{number_of}
@@ -19,7 +18,3 @@ abbrev pub Wrote : Result Divisor Refusal → (out : List ℕ) → ℤ → (out'
 Wrote (Ok x) out n out' =
     (length out < room → (n ≡ minus 10) × (out' ≡ out)) × (room ≤ length out → (c w : List ℕ) → GivenOn c w x → Gives w out n out')
 Wrote (Err e) out n out' = (n ≡ minus (number_of e)) × (out' ≡ out)
-
-abbrev pub Returned : Result ℤ Refusal → ℤ → Type 0
-Returned (Ok m) n = n ≡ m
-Returned (Err e) n = n ≡ minus (number_of e)

@@ -1,10 +1,10 @@
-// What a call returns and writes: minus the number of a refusal, or what was found; the record of the divisor that was found and its length.
+// What a call returns and writes: minus the number of a refusal, or the record of the divisor that was found and its length.
 #![tactic(auto)]
 
 ghost use Rattle.std.specs.Prelude.{◌≡◌};
 ghost use Rattle.refusal.specs.Refusal.{number_of};
 ghost use Rattle.calls.specs.Answer.{minus};
-ghost use Rattle.reply.specs.Written.{Writable, Wrote, Returned};
+ghost use Rattle.reply.specs.Written.{Writable, Wrote};
 
 use basis::Divisor;
 use refusal::Refusal;
@@ -14,13 +14,6 @@ pub fn refusal(cause: Refusal) -> i32
     ensures { result ≡ minus (number_of cause) }
 {
     -i32::from(cause.number())
-}
-
-// What a call returns for a number that was found, and for what was refused.
-pub fn returned(found: Result<i32, Refusal>) -> i32
-    ensures { Returned found result }
-{
-    found.unwrap_or_else(refusal)
 }
 
 // Writes the record of a divisor that was found at the start of `out`, and returns its length; refuses a buffer that is too short, and what was

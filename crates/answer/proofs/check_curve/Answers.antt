@@ -1,17 +1,8 @@
--- The curve is accepted or refused.
-use mathlib.Core.Path.{refl, ◌∙◌}
-use Rattle.calls.specs.Answer.{refused, answered}
-use Rattle.reader.proofs.Ground.{curve-passes, curve-cause}
+-- A refusal is returned.
+use mathlib.Core.Path.{◌∙◌}
+use Rattle.calls.specs.Answer.{refused}
 use Rattle.reply.proofs.Number.{kept}
 use Rattle.answer.proofs.check_curve.Goals as goal
 
-pub returns-in-Curve : goal.returns-in-Curve
-returns-in-Curve c =
-    let read = c.read_curve-read in
-    answered (curve-passes c.args.curve.now read.result read.ensures _ c.in-Curve.is) refl
-
-pub returns-in-Refused : goal.returns-in-Refused
-returns-in-Refused c =
-    let read = c.read_curve-read in
-    refused _ (curve-cause c.args.curve.now read.result read.ensures _ c.in-Refused.is)
-    (kept c.refusal.result c.refusal.type_inv ∙ c.refusal.ensures)
+pub returns-in-Err : goal.returns-in-Err
+returns-in-Err c = refused _ c.in-Err.ensures (kept c.refusal.result c.refusal.type_inv ∙ c.refusal.ensures)

@@ -1,51 +1,30 @@
--- The curve, the multiple on its ground, and the buffer.
-use mathlib.Core.Path.{refl, ◌∙◌, subst}
-use lib.IntN.{ℤ}
+-- What is made of the divisor is written.
+use Rattle.std.proofs.Common.{rules}
+use mir.Syntax.{w64}
+use mir.Val.{to_z, of_z}
 use mir.Facts.{to_z-of_z}
-use Rattle.record.specs.Curve.{curve_stages}
-use Rattle.calls.specs.Call.{divisor_of}
 use Rattle.calls.specs.Class.{IsMultiple}
-use Rattle.classes.specs.Found.{Found}
-use Rattle.reader.proofs.Ground.{curve-passes, curve-asked, curve_on, curve-cause}
-use Rattle.answer.proofs.Curve.{writes_curve}
-use Rattle.answer.proofs.Write.{writable, writes_found}
+use Rattle.classes.specs.Found.{OnCurves, MultipleMade}
+use Rattle.classes.proofs.Values.{one-asked}
+use Rattle.reply.proofs.Found.{one-writable, one-writes}
 use Rattle.reply.proofs.Number.{kept}
 use Rattle.answer.proofs.multiple.Goals as goal
 
-pub of-g-requires : goal.of-g-requires
-of-g-requires c =
-    let read = c.read_curve-read in
-    curve-asked c.args.curve.now read.result read.ensures _ c.in-Curve.is
-
-pub multiple_on-found-requires : goal.multiple_on-found-requires
-multiple_on-found-requires c =
-    let k = c.args.curve.now in
-    let read = c.read_curve-read in
-    (k, curve_on k read.result read.ensures _ c.in-Curve.is _ c.of-g.ensures)
+pub of_one-requires : goal.of_one-requires
+of_one-requires c = λ g x o v. (one-asked o v, rw (to_z-of_z c.ranges.n) c.ranges.n)
 
 pub written-requires : goal.written-requires
 written-requires c =
     let k = c.args.curve.now in
     let a = c.args.a.now in
-    let read = c.read_curve-read in
-    let o = curve_on k read.result read.ensures _ c.in-Curve.is _ c.of-g.ensures in
-    writable k (divisor_of k a) (IsMultiple k a c.args.n) c.multiple_on-found.result
-    (subst (λ (n : ℤ). Found k (divisor_of k a) (IsMultiple k a n) c.multiple_on-found.result) (to_z-of_z c.ranges.n) (c.multiple_on-found.ensures k o))
+    let n = c.args.n in
+    one-writable (IsMultiple k a n) (λ g x r o v p. let m : OnCurves g (λ c. MultipleMade c x (to_z w64 (of_z w64 n)) r) = search rules in rw (to_z-of_z c.ranges.n) at (m k o a v)) _ c.of_one.ensures
 
-pub returns-in-Curve : goal.returns-in-Curve
-returns-in-Curve c =
+pub returns : goal.returns
+returns c =
     let k = c.args.curve.now in
-    let read = c.read_curve-read in
-    let is = c.in-Curve.is in
-    let o = curve_on k read.result read.ensures _ is _ c.of-g.ensures in
     let a = c.args.a.now in
-    let found = c.multiple_on-found in
-    writes_found k (divisor_of k a) (IsMultiple k a c.args.n) _ found.result (curve-passes k read.result read.ensures _ is)
-    (subst (λ (n : ℤ). Found k (divisor_of k a) (IsMultiple k a n) found.result) (to_z-of_z c.ranges.n) (found.ensures k o)) c.written.ensures
-    (kept c.written.result c.written.type_inv)
-
-pub returns-in-Refused : goal.returns-in-Refused
-returns-in-Refused c =
-    let k = c.args.curve.now in
-    let read = c.read_curve-read in
-    writes_curve (curve_stages k) _ _ (curve-cause k read.result read.ensures _ c.in-Refused.is) (kept c.refusal.result c.refusal.type_inv ∙ c.refusal.ensures) refl
+    let n = c.args.n in
+    rw (kept c.written.result c.written.type_inv)
+    (one-writes (IsMultiple k a n) (λ g x r o v p. let m : OnCurves g (λ c. MultipleMade c x (to_z w64 (of_z w64 n)) r) = search rules in rw (to_z-of_z c.ranges.n) at (m k o a v)) _ c.of_one.ensures
+    c.written.ensures)

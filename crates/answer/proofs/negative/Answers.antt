@@ -1,44 +1,18 @@
--- The curve, the negative on its ground, and the buffer.
-use mathlib.Core.Path.{refl, ◌∙◌}
-use Rattle.record.specs.Curve.{curve_stages}
-use Rattle.calls.specs.Call.{divisor_of}
+-- What is made of the divisor is written.
+use Rattle.std.proofs.Common.{rules}
 use Rattle.calls.specs.Class.{IsNegative}
-use Rattle.reader.proofs.Ground.{curve-passes, curve-asked, curve_on, curve-cause}
-use Rattle.answer.proofs.Curve.{writes_curve}
-use Rattle.answer.proofs.Write.{writable, writes_found}
+use Rattle.classes.proofs.Values.{one-asked, negative-made}
+use Rattle.reply.proofs.Found.{one-writable, one-writes}
 use Rattle.reply.proofs.Number.{kept}
 use Rattle.answer.proofs.negative.Goals as goal
 
-pub of-g-requires : goal.of-g-requires
-of-g-requires c =
-    let read = c.read_curve-read in
-    curve-asked c.args.curve.now read.result read.ensures _ c.in-Curve.is
-
-pub negative_on-found-requires : goal.negative_on-found-requires
-negative_on-found-requires c =
-    let k = c.args.curve.now in
-    let read = c.read_curve-read in
-    (k, curve_on k read.result read.ensures _ c.in-Curve.is _ c.of-g.ensures)
+pub of_one-requires : goal.of_one-requires
+of_one-requires c = λ g x o v. one-asked o v
 
 pub written-requires : goal.written-requires
-written-requires c =
-    let k = c.args.curve.now in
-    let read = c.read_curve-read in
-    let o = curve_on k read.result read.ensures _ c.in-Curve.is _ c.of-g.ensures in
-    writable k (divisor_of k c.args.a.now) (IsNegative k c.args.a.now) c.negative_on-found.result (c.negative_on-found.ensures k o)
+written-requires c = one-writable (IsNegative c.args.curve.now c.args.a.now) (λ g x r o v p. negative-made o v (search rules)) _ c.of_one.ensures
 
-pub returns-in-Curve : goal.returns-in-Curve
-returns-in-Curve c =
-    let k = c.args.curve.now in
-    let read = c.read_curve-read in
-    let is = c.in-Curve.is in
-    let o = curve_on k read.result read.ensures _ is _ c.of-g.ensures in
-    let found = c.negative_on-found in
-    writes_found k (divisor_of k c.args.a.now) (IsNegative k c.args.a.now) _ found.result (curve-passes k read.result read.ensures _ is) (found.ensures k o)
-    c.written.ensures (kept c.written.result c.written.type_inv)
-
-pub returns-in-Refused : goal.returns-in-Refused
-returns-in-Refused c =
-    let k = c.args.curve.now in
-    let read = c.read_curve-read in
-    writes_curve (curve_stages k) _ _ (curve-cause k read.result read.ensures _ c.in-Refused.is) (kept c.refusal.result c.refusal.type_inv ∙ c.refusal.ensures) refl
+pub returns : goal.returns
+returns c =
+    rw (kept c.written.result c.written.type_inv)
+    (one-writes (IsNegative c.args.curve.now c.args.a.now) (λ g x r o v p. negative-made o v (search rules)) _ c.of_one.ensures c.written.ensures)

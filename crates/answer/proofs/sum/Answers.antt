@@ -1,47 +1,18 @@
--- The curve, the sum on its ground, and the buffer.
-use mathlib.Core.Path.{refl, ◌∙◌}
-use Rattle.record.specs.Curve.{curve_stages}
-use mathlib.Core.List.{◌++◌}
-use Rattle.calls.specs.Call.{divisor_of}
+-- What is made of the two divisors is written.
+use Rattle.std.proofs.Common.{rules}
 use Rattle.calls.specs.Class.{IsSum}
-use Rattle.reader.proofs.Ground.{curve-passes, curve-asked, curve_on, curve-cause}
-use Rattle.answer.proofs.Curve.{writes_curve}
-use Rattle.answer.proofs.Write.{writable, writes_found}
+use Rattle.classes.proofs.Values.{two-asked, sum-made}
+use Rattle.reply.proofs.Found.{two-writable, two-writes}
 use Rattle.reply.proofs.Number.{kept}
 use Rattle.answer.proofs.sum.Goals as goal
 
-pub of-g-requires : goal.of-g-requires
-of-g-requires c =
-    let read = c.read_curve-read in
-    curve-asked c.args.curve.now read.result read.ensures _ c.in-Curve.is
-
-pub sum_on-found-requires : goal.sum_on-found-requires
-sum_on-found-requires c =
-    let k = c.args.curve.now in
-    let read = c.read_curve-read in
-    (k, curve_on k read.result read.ensures _ c.in-Curve.is _ c.of-g.ensures)
+pub of_two-requires : goal.of_two-requires
+of_two-requires c = λ g x y o v u. two-asked o v u
 
 pub written-requires : goal.written-requires
-written-requires c =
-    let k = c.args.curve.now in
-    let read = c.read_curve-read in
-    let o = curve_on k read.result read.ensures _ c.in-Curve.is _ c.of-g.ensures in
-    writable k (divisor_of k c.args.a.now ++ divisor_of k c.args.b.now) (IsSum k c.args.a.now c.args.b.now) c.sum_on-found.result
-    (c.sum_on-found.ensures k o)
+written-requires c = two-writable (IsSum c.args.curve.now c.args.a.now c.args.b.now) (λ g x y r o v u p. sum-made o v u (search rules)) _ c.of_two.ensures
 
-pub returns-in-Curve : goal.returns-in-Curve
-returns-in-Curve c =
-    let k = c.args.curve.now in
-    let read = c.read_curve-read in
-    let is = c.in-Curve.is in
-    let o = curve_on k read.result read.ensures _ is _ c.of-g.ensures in
-    let found = c.sum_on-found in
-    writes_found k (divisor_of k c.args.a.now ++ divisor_of k c.args.b.now) (IsSum k c.args.a.now c.args.b.now) _ found.result
-    (curve-passes k read.result read.ensures _ is) (found.ensures k o) c.written.ensures
-    (kept c.written.result c.written.type_inv)
-
-pub returns-in-Refused : goal.returns-in-Refused
-returns-in-Refused c =
-    let k = c.args.curve.now in
-    let read = c.read_curve-read in
-    writes_curve (curve_stages k) _ _ (curve-cause k read.result read.ensures _ c.in-Refused.is) (kept c.refusal.result c.refusal.type_inv ∙ c.refusal.ensures) refl
+pub returns : goal.returns
+returns c =
+    rw (kept c.written.result c.written.type_inv)
+    (two-writes (IsSum c.args.curve.now c.args.a.now c.args.b.now) (λ g x y r o v u p. sum-made o v u (search rules)) _ c.of_two.ensures c.written.ensures)

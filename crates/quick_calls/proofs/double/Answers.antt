@@ -1,44 +1,24 @@
--- The curve, the double on its ground, and the buffer.
-use mathlib.Core.Path.{refl, ◌∙◌}
-use Rattle.record.specs.Curve.{curve_stages}
-use Rattle.calls.specs.Call.{divisor_of}
+-- What is made of the divisor is written.
+use Rattle.std.proofs.Common.{rules}
 use Rattle.calls.specs.Class.{IsSum}
-use Rattle.reader.proofs.Ground.{curve-passes, curve-asked, curve_on, curve-cause}
-use Rattle.answer.proofs.Curve.{writes_curve}
-use Rattle.answer.proofs.Write.{writable, writes_found}
+use Rattle.reply.proofs.Found.{one-writable, one-writes}
 use Rattle.reply.proofs.Number.{kept}
+use Rattle.classes.proofs.Values.{two-asked}
+use Rattle.quick_calls.specs.Added.{AddedOf}
 use Rattle.quick_calls.proofs.double.Goals as goal
 
-pub of-g-requires : goal.of-g-requires
-of-g-requires c =
-    let read = c.read_curve-read in
-    curve-asked c.args.curve.now read.result read.ensures _ c.in-Curve.is
-
-pub double_on-found-requires : goal.double_on-found-requires
-double_on-found-requires c =
-    let k = c.args.curve.now in
-    let read = c.read_curve-read in
-    (k, curve_on k read.result read.ensures _ c.in-Curve.is _ c.of-g.ensures)
+pub of_one-requires : goal.of_one-requires
+of_one-requires c = λ g x o v. two-asked o v v
 
 pub written-requires : goal.written-requires
 written-requires c =
     let k = c.args.curve.now in
-    let read = c.read_curve-read in
-    let o = curve_on k read.result read.ensures _ c.in-Curve.is _ c.of-g.ensures in
-    writable k (divisor_of k c.args.a.now) (IsSum k c.args.a.now c.args.a.now) c.double_on-found.result (c.double_on-found.ensures k o)
+    let a = c.args.a.now in
+    one-writable (IsSum k a a) (λ g x r o v p. let s : AddedOf g x x r = search rules in s k o a a v v) _ c.of_one.ensures
 
-pub returns-in-Curve : goal.returns-in-Curve
-returns-in-Curve c =
+pub returns : goal.returns
+returns c =
     let k = c.args.curve.now in
-    let read = c.read_curve-read in
-    let is = c.in-Curve.is in
-    let o = curve_on k read.result read.ensures _ is _ c.of-g.ensures in
-    let found = c.double_on-found in
-    writes_found k (divisor_of k c.args.a.now) (IsSum k c.args.a.now c.args.a.now) _ found.result (curve-passes k read.result read.ensures _ is)
-    (found.ensures k o) c.written.ensures (kept c.written.result c.written.type_inv)
-
-pub returns-in-Refused : goal.returns-in-Refused
-returns-in-Refused c =
-    let k = c.args.curve.now in
-    let read = c.read_curve-read in
-    writes_curve (curve_stages k) _ _ (curve-cause k read.result read.ensures _ c.in-Refused.is) (kept c.refusal.result c.refusal.type_inv ∙ c.refusal.ensures) refl
+    let a = c.args.a.now in
+    rw (kept c.written.result c.written.type_inv)
+    (one-writes (IsSum k a a) (λ g x r o v p. let s : AddedOf g x x r = search rules in s k o a a v v) _ c.of_one.ensures c.written.ensures)

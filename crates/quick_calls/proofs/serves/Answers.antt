@@ -1,78 +1,23 @@
--- `quick_calls::serves` meets its contract: the formulas are tried once the curve and both divisors are accepted.
-use mathlib.Core.Path.{refl, ◌∙◌}
-use mathlib.Core.Logic.{inl, inr}
-use Rattle.reader.proofs.Ground.{curve-passes, curve-asked, curve_on, curve-cause, grounded_on}
-use Rattle.calls.specs.Answer.{refused, answered}
-use Rattle.calls.proofs.Exists.{two-passes}
+-- The formulas are tried once the curve and both divisors are accepted.
+use Rattle.std.proofs.Common.{rules}
+use mathlib.Core.Path.{◌∙◌}
+use Rattle.calls.specs.Answer.{refused}
+use Rattle.classes.proofs.Made.{two_passes}
 use Rattle.classes.proofs.Values.{two-asked}
-use Rattle.classes.proofs.Read.{pair-given, pair-refused}
 use Rattle.reply.proofs.Number.{kept}
-use Rattle.comparison.proofs.Walks.{curve_refused, divisor_refused}
+use Rattle.quick.specs.Served.{ServedOf}
+use Rattle.quick_calls.proofs.Serving.{serves-answered}
 use Rattle.quick_calls.proofs.serves.Goals as goal
 
-pub of-g-requires : goal.of-g-requires
-of-g-requires c =
-    let read = c.read_curve-read in
-    curve-asked c.args.curve.now read.result read.ensures _ c.in-Curve.is
+pub of_two-requires : goal.of_two-requires
+of_two-requires c = λ g x y o v u. two-asked o v u
 
-pub read_two-next-requires : goal.read_two-next-requires
-read_two-next-requires c =
-    let read = c.read_curve-read in
-    grounded_on (curve_on c.args.curve.now read.result read.ensures _ c.in-Curve.is _ c.of-g.ensures)
+pub returns-in-Ok : goal.returns-in-Ok
+returns-in-Ok c =
+    let m = c.in-Ok.ensures in
+    let made = m.made in
+    let s : ServedOf m.ground m.first m.second c.in-Ok.tried = search (rules, made) in
+    serves-answered (two_passes m) (s _ m.on _ _ m.given m.given_second) _ (kept c.from.result c.from.type_inv ∙ c.from.ensures)
 
-pub served-t-requires : goal.served-t-requires
-served-t-requires c =
-    let k = c.args.curve.now in
-    let a = c.args.a.now in
-    let b = c.args.b.now in
-    let read = c.read_curve-read in
-    let is = c.in-Curve.is in
-    let o = curve_on k read.result read.ensures _ is _ c.of-g.ensures in
-    let two = c.read_two-next in
-    let v = pair-given o a b two.result two.ensures _ _ c.in-Two.is in
-    two-asked o v.0 v.1
-
-pub returns-then-t : goal.returns-then-t
-returns-then-t c =
-    let k = c.args.curve.now in
-    let a = c.args.a.now in
-    let b = c.args.b.now in
-    let read = c.read_curve-read in
-    let is = c.in-Curve.is in
-    let o = curve_on k read.result read.ensures _ is _ c.of-g.ensures in
-    let two = c.read_two-next in
-    let v = pair-given o a b two.result two.ensures _ _ c.in-Two.is in
-    let s = c.served-t.ensures k o a b v.0 v.1 in
-    answered (two-passes k (curve-passes k read.result read.ensures _ is) a b v.0.accepted v.1.accepted) (inl ((s.yes c.if-t.true).0, refl))
-
-pub returns-else-t : goal.returns-else-t
-returns-else-t c =
-    let k = c.args.curve.now in
-    let a = c.args.a.now in
-    let b = c.args.b.now in
-    let read = c.read_curve-read in
-    let is = c.in-Curve.is in
-    let o = curve_on k read.result read.ensures _ is _ c.of-g.ensures in
-    let two = c.read_two-next in
-    let v = pair-given o a b two.result two.ensures _ _ c.in-Two.is in
-    let s = c.served-t.ensures k o a b v.0 v.1 in
-    answered (two-passes k (curve-passes k read.result read.ensures _ is) a b v.0.accepted v.1.accepted) (inr (s.no c.if-t.false, refl))
-
-pub returns-in-Refused-next : goal.returns-in-Refused-next
-returns-in-Refused-next c =
-    let k = c.args.curve.now in
-    let a = c.args.a.now in
-    let b = c.args.b.now in
-    let read = c.read_curve-read in
-    let is = c.in-Curve.is in
-    let o = curve_on k read.result read.ensures _ is _ c.of-g.ensures in
-    let two = c.read_two-next in
-    refused _ (divisor_refused k a b _ (curve-passes k read.result read.ensures _ is) (pair-refused o a b two.result two.ensures _ c.in-Refused-next.is))
-    (kept c.refusal.result c.refusal.type_inv ∙ c.refusal.ensures)
-
-pub returns-in-Refused : goal.returns-in-Refused
-returns-in-Refused c =
-    let k = c.args.curve.now in
-    let read = c.read_curve-read in
-    refused _ (curve_refused k c.args.a.now c.args.b.now _ (curve-cause k read.result read.ensures _ c.in-Refused.is))
-    (kept c.refusal-in-Refused.result c.refusal-in-Refused.type_inv ∙ c.refusal-in-Refused.ensures)
+pub returns-in-Err : goal.returns-in-Err
+returns-in-Err c = refused _ c.in-Err.ensures (kept c.refusal.result c.refusal.type_inv ∙ c.refusal.ensures)
