@@ -5,7 +5,7 @@
 --   walked_more            one point more
 --   walked_refused         the next pair is refused
 --   walked_end             no pair is left
---   count-wrong, count-right    what sum_on finds of the count of numbers
+--   count-right            what sum_on finds where the count of numbers is right
 use mathlib.Core.Path.{◌≡◌, refl, sym, ◌∙◌, ap, subst}
 use mathlib.Core.Logic.{inl, inr}
 use mathlib.Core.List.{List, [], ◌∷◌, ◌++◌, map, append-nil, append_assoc}
@@ -121,9 +121,6 @@ abbrev stages : (c ns : List ℕ) → List Stage
 stages c ns = numbers_stage ns ∷ pairs_stages c (pairs ns)
 
 module _ {g : Ground} (ns : List ℕ) where
-  pub count-wrong : ¬ ((length ns % 2 ≡ 0) × (length ns ≤ 8192)) → OnCurves g (λ c. FirstCause (stages c ns) 14)
-  count-wrong n c o = inl (λ h. n (h.0, omega (arith, h.1)), refl)
-
   pub count-right : length ns % 2 ≡ 0 → length ns ≤ 8192 → (Good : List ℕ → List ℕ → Type 0) (r : Result Divisor Refusal)
       → OnCurves g (λ c. Found c (pairs_stages c (pairs ns)) (Good c) r) → OnCurves g (λ c. Found c (stages c ns) (Good c) r)
   count-right e l Good (Ok x) h c o = let k = h c o in (((e, omega arith), k.0), k.1)
