@@ -3,8 +3,8 @@ use Rattle.refusal.proofs.Passed.{passed_on}
 use Rattle.short_reader.proofs.Grounds.{positive, short_asked, cause-form, found_8, found_15, basis_asked, found-no_basis, found-basis}
 use Rattle.short_reader.proofs.read_short.Goals as goal
 
-pub short_form-kind-requires : goal.short_form-kind-requires
-short_form-kind-requires c = positive c.requires
+pub short_form-requires : goal.short_form-requires
+short_form-requires c = positive c.requires
 
 pub returns-in_err-kind : goal.returns-in_err-kind
 returns-in_err-kind c G =
