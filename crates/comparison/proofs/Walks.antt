@@ -1,9 +1,8 @@
 -- What a walk over two divisors meets.
 --   met                    on accepted divisors, whose bytes are whole words, the words tell whether the bytes are the same
 --   walk-read              what walked found: a walk, or the first cause
-use mathlib.Core.Path.{◌≡◌, sym, ap, subst, ◌∙◌}
-use mathlib.Core.Logic.{inl, inr}
-use mathlib.Core.List.{List, ◌++◌}
+use mathlib.Core.Path.{◌≡◌, sym, ap, ◌∙◌}
+use mathlib.Core.List.{List}
 use Prim.Native.Nat.{ℕ, ◌*◌, ◌/◌, ◌≤◌}
 use native.Mathlib.Omega.{arith}
 use Rattle.std.specs.Prelude.{Result, Ok, Err}
@@ -18,12 +17,9 @@ use Rattle.words.specs.declared.Walk.{Walk}
 use Rattle.words.proofs.Compared.{compared-most, length_words, same-words}
 use Rattle.ground.specs.declared.Ground.{Ground}
 use Rattle.basis.specs.declared.Divisor.{Divisor}
-use Rattle.record.specs.Cause.{FirstCause}
-use Rattle.record.specs.Curve.{curve_stages, AcceptedCurve}
-use Rattle.record.proofs.Cause.{first_append}
+use Rattle.record.specs.Curve.{AcceptedCurve}
 use Rattle.record.proofs.Written.{length_bytes_of}
 use Rattle.reader.specs.Reading.{GivenOn}
-use Rattle.calls.specs.Call.{divisor_of}
 use Rattle.calls.proofs.Exists.{two-passes}
 use Rattle.classes.proofs.Values.{given_record}
 use Rattle.classes.specs.Made.{TwoMade}
