@@ -67,6 +67,12 @@ pub fn count_on(g: Ground, list: &[u8], kind: u32) -> Result<u16, Refusal>
         |count: u16, x: Divisor| -> u16
             requires { count < 65535 }
             ensures { result ≡ count + one_if (eqb (code x.kind) kind) }
-        { if x.kind.code() == kind { count + 1 } else { count } },
+        {
+            if x.kind.code() == kind {
+                count + 1
+            } else {
+                count
+            }
+        },
     )
 }

@@ -55,8 +55,7 @@ returns c =
     let h = c.sized.ensures.holds c.if-not-sized.false in
     let κ = c.in-Ok.kind in
     let e = short-kind _ κ _ c.read_u16-code.ensures.is c.if-code-lt100.false c.in-Ok.ensures in
-    let w = c.bit_length-w.ensures.is in
-    (
+    let w = c.bit_length-w.ensures.is in (
       (
         h,
         (
