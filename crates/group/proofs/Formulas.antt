@@ -12,7 +12,7 @@ use Rattle.ground.specs.declared.Ground.{Ground}
 use Rattle.basis.specs.declared.Divisor.{Divisor}
 use Rattle.basis.specs.Divisor.{residues, BasisValue}
 use Rattle.usual.specs.Trial.{TriedAsked, TriedOf, Summed}
-use Rattle.group.specs.Contract.{IsDivisor, SumAsked, SumIs, SumOf, TriedSumOf}
+use Rattle.group.specs.Contract.{IsDivisor, SumAsked, SumIs, SumOf, ByFormulasOf}
 
 module _ {g : Ground} {a b : Divisor} (ka : a.kind ≡ k31) (kb : b.kind ≡ k31) where
   module _ (A : SumAsked g a b) where
@@ -38,7 +38,7 @@ module _ {g : Ground} {a b : Divisor} (ka : a.kind ≡ k31) (kb : b.kind ≡ k31
           (kind_31 A.a_is ka) (kind_31 A.b_is kb) s.reduced,
     )
 
-  pub formulas_sum : {t : Option Divisor} → TriedOf g a b t → TriedSumOf g a b t
+  pub formulas_sum : {t : Option Divisor} → TriedOf g a b t → ByFormulasOf g a b t
   formulas_sum {t} T = record { sum = sum t T; tried = T }
     where
       sum : (t : Option Divisor) → TriedOf g a b t → IfSome t (SumOf g a b)
@@ -46,8 +46,8 @@ module _ {g : Ground} {a b : Divisor} (ka : a.kind ≡ k31) (kb : b.kind ≡ k31
       sum (Some s) T = λ A. formulas_is A (T (formulas_tried A)).yes
 
 module _ {g : Ground} {a b : Divisor} where
-  pub first-other : ¬ (a.kind ≡ k31) → TriedSumOf g a b None
+  pub first-other : ¬ (a.kind ≡ k31) → ByFormulasOf g a b None
   first-other n = record { sum = tt; tried = λ A. absurd (n A.a_is.shaped.kind) }
 
-  pub second-other : ¬ (b.kind ≡ k31) → TriedSumOf g a b None
+  pub second-other : ¬ (b.kind ≡ k31) → ByFormulasOf g a b None
   second-other n = record { sum = tt; tried = λ A. absurd (n A.b_is.shaped.kind) }

@@ -3,10 +3,12 @@
 --   ideal S r D        its ideal
 --   NegativeAsked, NegativeOf      negative: the ideal of the result is I*
 --   SumAsked, SumIs, SumOf         sum, by_product: it is the reduced ideal of the product
---   TriedSumOf                     tried: what there is is the sum, and what the formulas say of two divisors of kind 31
+--   ByFormulasOf                   by_formulas: what there is is the sum, and what the formulas say of two divisors of kind 31
+--   tried_sum, tried_formulas      the sum of what tried returns, and what by_formulas had for it
+--   TriedSumOf                     tried: the sum, and what the formulas say of two divisors of kind 31
 --   ProductStarOf                  product_star: it is J*, for the product J
 --   ZeroClass r                    zero_class: kind 0, and no number
-use Rattle.std.specs.Prelude.{◌≡◌, ℕ, replicate, Option, IfSome}
+use Rattle.std.specs.Prelude.{◌≡◌, ℕ, replicate, Option, Some, None, IfSome}
 use Rattle.ideal.specs.Ideal.{Product}
 use Rattle.ideal.specs.Reduced.{IsStar, IsReduced}
 use Rattle.divisor.specs.Kind.{Kind, k0, IdealOf}
@@ -16,6 +18,8 @@ use Rattle.ground.specs.Ground.{Grounded}
 use Rattle.basis.specs.Divisor.{numbers_of, residues, BasisValue}
 use Rattle.basis.specs.declared.Divisor.{Divisor}
 use Rattle.usual.specs.Trial.{TriedOf}
+use Rattle.group.specs.declared.SumBy.{SumBy}
+use Rattle.group.specs.declared.SumBy.TheVariants as by
 
 pub record IsDivisor {p : ℕ} (S : Setting p) (r : Divisor) : Type 0 where
   pub kind : Kind
@@ -47,10 +51,23 @@ SumIs {g} {a} {b} A r =
 abbrev pub SumOf : (g : Ground) (a b r : Divisor) → Type 0
 SumOf g a b r = (A : SumAsked g a b) → SumIs A r
 
--- what is tried of any two divisors: a sum that there is, and what usual::sum_tried says of two divisors of kind 31
-pub record TriedSumOf (g : Ground) (a b : Divisor) (r : Option Divisor) : Type 0 where
+-- what the formulas give of any two divisors: a sum that there is, and what usual::sum_tried says of two divisors of kind 31
+pub record ByFormulasOf (g : Ground) (a b : Divisor) (r : Option Divisor) : Type 0 where
   pub sum : IfSome r (SumOf g a b)
   pub tried : TriedOf g a b r
+
+abbrev pub tried_sum : SumBy → Divisor
+tried_sum (by.Formulas s) = s
+tried_sum (by.Product s) = s
+
+abbrev pub tried_formulas : SumBy → Option Divisor
+tried_formulas (by.Formulas s) = Some s
+tried_formulas (by.Product s) = None
+
+-- what is tried of any two divisors: the sum, and what usual::sum_tried says of two divisors of kind 31
+pub record TriedSumOf (g : Ground) (a b : Divisor) (r : SumBy) : Type 0 where
+  pub sum : SumOf g a b (tried_sum r)
+  pub tried : TriedOf g a b (tried_formulas r)
 
 abbrev pub ProductStarOf : (g : Ground) (a b r : Divisor) → Type 0
 ProductStarOf g a b r =

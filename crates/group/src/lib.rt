@@ -1,7 +1,7 @@
 // Sums and negatives of divisors by value, on the ground of a curve.
 #![tactic(auto)]
 
-ghost use Rattle.group.specs.Contract.{NegativeAsked, NegativeOf, SumAsked, SumOf, TriedSumOf, ProductStarOf, ZeroClass};
+ghost use Rattle.group.specs.Contract.{NegativeAsked, NegativeOf, SumAsked, SumOf, ByFormulasOf, TriedSumOf, ProductStarOf, ZeroClass};
 
 use basis::Divisor;
 use ground::Ground;
@@ -16,10 +16,17 @@ pub fn negative(g: Ground, a: Divisor) -> Divisor
     star::star(g, &t)
 }
 
+// The sum of two divisors, by formulas or by the product of the ideals.
+#[derive(Clone, Copy)]
+pub enum SumBy {
+    Formulas(Divisor),
+    Product(Divisor),
+}
+
 // The sum by formulas, if these serve: they are tried for two divisors of kind 31.
-pub fn tried(g: Ground, a: Divisor, b: Divisor) -> Option<Divisor>
+pub fn by_formulas(g: Ground, a: Divisor, b: Divisor) -> Option<Divisor>
     requires { SumAsked g a b }
-    ensures { TriedSumOf g a b result }
+    ensures { ByFormulasOf g a b result }
 {
     if a.kind != Kind::K31 {
         return None;
@@ -30,14 +37,25 @@ pub fn tried(g: Ground, a: Divisor, b: Divisor) -> Option<Divisor>
     usual::sum_tried(g, a, b)
 }
 
-// The reduced ideal of the product of the ideals of a and b: by formulas if these serve, and else by the product.
+// The reduced ideal of the product of the ideals of a and b, and whether it is by formulas: it is by these if they serve, and else by the product.
+pub fn tried(g: Ground, a: Divisor, b: Divisor) -> SumBy
+    requires { SumAsked g a b }
+    ensures { TriedSumOf g a b result }
+{
+    match by_formulas(g, a, b) {
+        Some(s) => SumBy::Formulas(s),
+        None => SumBy::Product(by_product(g, a, b)),
+    }
+}
+
+// The reduced ideal of the product of the ideals of a and b.
 pub fn sum(g: Ground, a: Divisor, b: Divisor) -> Divisor
     requires { SumAsked g a b }
     ensures { SumOf g a b result }
 {
     match tried(g, a, b) {
-        Some(s) => s,
-        None => by_product(g, a, b),
+        SumBy::Formulas(s) => s,
+        SumBy::Product(s) => s,
     }
 }
 

@@ -55,5 +55,5 @@ pub fn served(g: Ground, x: Divisor, y: Divisor) -> Option<Divisor>
     if !is_typical(y) {
         return None;
     }
-    group::tried(g, x, y)
+    group::by_formulas(g, x, y)
 }

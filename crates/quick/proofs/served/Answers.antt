@@ -15,5 +15,5 @@ returns-then-not-is_typical-2 c = search (not_typical-first, not_typical-second,
 
 pub returns : goal.returns
 returns c =
-    tried-served c.tried.ensures.tried (c.short_form.ensures.holds (granted _ (ap not c.if-not-short_form.false))) (c.is_typical.ensures.holds (granted _ (ap not c.if-not-is_typical.false)))
+    tried-served c.by_formulas.ensures.tried (c.short_form.ensures.holds (granted _ (ap not c.if-not-short_form.false))) (c.is_typical.ensures.holds (granted _ (ap not c.if-not-is_typical.false)))
     (c.is_typical-2.ensures.holds (granted _ (ap not c.if-not-is_typical-2.false)))

@@ -1,7 +1,7 @@
--- `group::tried` meets its contract: the sum of the formulas where they are tried and serve.
+-- `group::by_formulas` meets its contract: the sum of the formulas where they are tried and serve.
 use Rattle.group.proofs.Formulas.{formulas_tried, formulas_sum, first-other, second-other}
 use borrow.Author.Rules.{rules}
-use Rattle.group.proofs.tried.Goals as goal
+use Rattle.group.proofs.by_formulas.Goals as goal
 
 pub returns-then-ne : goal.returns-then-ne
 returns-then-ne c = first-other (search rules)
