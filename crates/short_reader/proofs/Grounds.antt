@@ -1,8 +1,10 @@
 -- What the reader of a short record finds on a ground, by what it reads of the record of the value x.
---   positive, short_asked        the modulus of a ground is not 0; so a form that is accepted may be read
---   cause-form                   a form that is not accepted
---   found_8, found_15            the record is refused with 8; it is not, and the filling is not zero
---   found-read                   … and the filling is zero
+--   of_8                       the refusal with the number 8
+--   positive, short_asked      the modulus of a ground is not 0; so a form that is accepted may be read
+--   cause-form                 a form that is not accepted
+--   found_8                    the record is refused with 8
+--   found_15                   it is not, and the filling is not zero
+--   found-read                 the filling is zero: what is read of the record stands
 use mathlib.Core.Path.{◌≡◌, refl, ap, ◌∙◌, subst}
 use mathlib.Core.Logic.{inl}
 use mathlib.Core.List.{List}

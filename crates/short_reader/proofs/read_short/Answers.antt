@@ -1,11 +1,7 @@
 -- Each return is at the first stage that is not passed; the laws are those of Grounds.
-use mathlib.Core.Path.{◌≡◌}
 use borrow.Author.Rules.{rules}
-use Rattle.std.specs.Prelude.{Err}
-use Rattle.refusal.specs.declared.Refusal.TheVariants as refusal
 use Rattle.refusal.proofs.Passed.{passed_on}
 use Rattle.short_reader.proofs.Grounds.{positive, short_asked, cause-form, found_8, found_15, found-read}
-use Rattle.short_reader.proofs.read_short.Goals.{in_default-via-in-Err+in_default, in_default-via-in_default}
 use Rattle.short_reader.proofs.read_short.Goals as goal
 
 pub short_form-requires : goal.short_form-requires
@@ -28,12 +24,8 @@ returns-in-Err-Number c G =
 
 pub returns-in_default : goal.returns-in_default
 returns-in_default c G =
-    let other : ¬ (c.read_value-read.result ≡ Err refusal.Number) =
-    elim c.in_default.branch [
-      | in_default-via-in-Err+in_default w ↦ λ e. search (rules, e)
-      | in_default-via-in_default w ↦ λ e. search (rules, e)
-    ] in
-    found_15 G _ _ c.in_ok-kind.ensures.0 c.in_ok-kind.ensures.1 c.value-x.ensures _ (c.read_value-read.ensures G) other
+    found_15 G _ _ c.in_ok-kind.ensures.0 c.in_ok-kind.ensures.1 c.value-x.ensures _ (c.read_value-read.ensures G)
+    (λ e. grind (rules, e, c.in_default.branch))
     (c.filling_zero-zero.ensures.fails c.if-not-zero.true)
 
 pub returns-in_default-2 : goal.returns-in_default-2
