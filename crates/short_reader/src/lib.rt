@@ -5,7 +5,7 @@ ghost use Rattle.std.specs.Prelude.{◌<◌, ◌≤◌};
 ghost use Rattle.algebra.specs.Answers.{Answers};
 ghost use Rattle.ground.specs.Ground.{Grounded, AtGround};
 ghost use Rattle.short.specs.Short.{OfShort};
-ghost use Rattle.short_reader.specs.Reading.{FormRead, ShortAsked, Number, ValueOf, FillingZero, ShortRead};
+ghost use Rattle.short_reader.specs.Reading.{FormRead, ShortAsked, Number, ValueOf, FillingZero, ValueRead, ShortRead};
 
 use basis::Divisor;
 use ground::Ground;
@@ -81,6 +81,16 @@ fn filling_zero(p: u32, kind: Kind, s: &[u8]) -> bool
     unpacking::read_bits(s, from, 8) == 0
 }
 
+// A divisor by value on the curve of g: accepted or refused as its record is.
+fn read_value(g: Ground, x: Divisor) -> Result<Divisor, Refusal>
+    requires { Grounded g }
+    ensures { AtGround g (λ p C. ValueRead p C x result) }
+{
+    let mut bytes = [0u8; 40];
+    let n = reader::write_divisor(x, &mut bytes);
+    reader::read_divisor(g, &bytes[..n])
+}
+
 // A short record on the curve of g: accepted or refused.
 pub fn read_short(g: Ground, s: &[u8]) -> Result<Divisor, Refusal>
     requires { Grounded g }
@@ -88,14 +98,11 @@ pub fn read_short(g: Ground, s: &[u8]) -> Result<Divisor, Refusal>
 {
     let kind = short_form(g.p, s)?;
     let x = value(g.p, kind, s);
-    if !checks::all_below(g.p, x) {
-        return Err(Refusal::Number);
+    let zero = filling_zero(g.p, kind, s);
+    let read = read_value(g, x);
+    match read {
+        Err(Refusal::Number) => Err(Refusal::Number),
+        _ if !zero => Err(Refusal::Filling),
+        _ => read,
     }
-    if !filling_zero(g.p, kind, s) {
-        return Err(Refusal::Filling);
-    }
-    if !basis::is_basis(g.p, &g.cube, x) {
-        return Err(Refusal::NoBasis);
-    }
-    Ok(x)
 }

@@ -1,6 +1,7 @@
 -- Each return is at the first stage that is not passed; the laws are those of Grounds.
+use borrow.Author.Rules.{rules}
 use Rattle.refusal.proofs.Passed.{passed_on}
-use Rattle.short_reader.proofs.Grounds.{positive, short_asked, cause-form, found_8, found_15, basis_asked, found-no_basis, found-basis}
+use Rattle.short_reader.proofs.Grounds.{positive, short_asked, cause-form, found_8, found_15, found-read}
 use Rattle.short_reader.proofs.read_short.Goals as goal
 
 pub short_form-requires : goal.short_form-requires
@@ -13,32 +14,21 @@ returns-in_err-kind c G =
 pub value-x-requires : goal.value-x-requires
 value-x-requires c = positive c.requires
 
-pub returns-then-not-all_below : goal.returns-then-not-all_below
-returns-then-not-all_below c G =
-    found_8 G _ _ c.in_ok-kind.ensures.0 c.in_ok-kind.ensures.1 c.value-x.ensures (c.all_below.ensures.fails c.if-not-all_below.true)
+pub filling_zero-zero-requires : goal.filling_zero-zero-requires
+filling_zero-zero-requires c =
+    record { asked = short_asked c.requires c.in_ok-kind.ensures.0; of_kind = c.in_ok-kind.ensures.1 }
 
-pub filling_zero-requires : goal.filling_zero-requires
-filling_zero-requires c = record { asked = short_asked c.requires c.in_ok-kind.ensures.0; of_kind = c.in_ok-kind.ensures.1 }
+pub returns-in-Err-Number : goal.returns-in-Err-Number
+returns-in-Err-Number c G =
+    found_8 G _ _ c.in_ok-kind.ensures.0 c.in_ok-kind.ensures.1 c.value-x.ensures _ (c.read_value-read.ensures G) (search rules)
 
-pub returns-then-not-filling_zero : goal.returns-then-not-filling_zero
-returns-then-not-filling_zero c G =
-    found_15 G _ _ c.in_ok-kind.ensures.0 c.in_ok-kind.ensures.1 c.value-x.ensures
-    (c.all_below.ensures.holds c.if-not-all_below.false)
-    (c.filling_zero.ensures.fails c.if-not-filling_zero.true)
+pub returns-in_default : goal.returns-in_default
+returns-in_default c G =
+    found_15 G _ _ c.in_ok-kind.ensures.0 c.in_ok-kind.ensures.1 c.value-x.ensures _ (c.read_value-read.ensures G)
+    (λ e. grind (rules, e, c.in_default.branch))
+    (c.filling_zero-zero.ensures.fails c.if-not-zero.true)
 
-pub is_basis-requires : goal.is_basis-requires
-is_basis-requires c =
-    let below = c.all_below.ensures.holds c.if-not-all_below.false in
-    basis_asked c.requires _ _ c.in_ok-kind.ensures.0 c.in_ok-kind.ensures.1 c.value-x.ensures below
-
-pub returns-then-not-is_basis : goal.returns-then-not-is_basis
-returns-then-not-is_basis c G =
-    let below = c.all_below.ensures.holds c.if-not-all_below.false in
-    let zero = c.filling_zero.ensures.holds c.if-not-filling_zero.false in
-    found-no_basis G _ _ c.in_ok-kind.ensures.0 c.in_ok-kind.ensures.1 c.value-x.ensures below zero c.is_basis.ensures c.if-not-is_basis.true
-
-pub returns : goal.returns
-returns c G =
-    let below = c.all_below.ensures.holds c.if-not-all_below.false in
-    let zero = c.filling_zero.ensures.holds c.if-not-filling_zero.false in
-    found-basis G _ _ c.in_ok-kind.ensures.0 c.in_ok-kind.ensures.1 c.value-x.ensures below zero c.is_basis.ensures c.if-not-is_basis.false
+pub returns-in_default-2 : goal.returns-in_default-2
+returns-in_default-2 c G =
+    found-read G _ _ c.in_ok-kind.ensures.0 c.in_ok-kind.ensures.1 c.value-x.ensures _ (c.read_value-read.ensures G)
+    (c.filling_zero-zero.ensures.holds c.if-not-zero.false)
