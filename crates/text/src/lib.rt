@@ -1,11 +1,70 @@
-// Text put into a lent buffer of bytes, piece behind piece.
+// Text put into a lent buffer of bytes. Each function `put_..` writes from place `at` on and returns the place behind what it wrote; a `Text` puts
+// piece behind piece.
 #![tactic(auto)]
 
-ghost use Rattle.std.specs.Prelude.{◌≡◌, [], ◌∷◌, ◌≤◌, ◌<◌, length};
+ghost use Rattle.std.specs.Prelude.{◌≡◌, [], ◌∷◌, ◌+◌, ◌≤◌, ◌<◌, length};
 ghost use Rattle.text.specs.Decimal.{digit, decimal, two_digits};
-ghost use Rattle.text.specs.Put.{Put, Placed};
+ghost use Rattle.text.specs.Put.{PutAt, PlacedAt, Put, Placed};
 
 use std::marker::Model;
+
+// One byte.
+pub fn put_byte(out: &mut [u8], at: usize, b: u8) -> usize
+    requires { at + 1 ≤ length out.old }
+    ensures { PutAt out.old at (b ∷ []) result out.new }
+{
+    out[at] = b;
+    at + 1
+}
+
+// The bytes of a slice.
+pub fn put_bytes(out: &mut [u8], at: usize, text: &[u8]) -> usize
+    requires { at + length text.now ≤ length out.old }
+    ensures { PutAt out.old at text.now result out.new }
+{
+    let end = at + text.len();
+    out[at..end].copy_from_slice(text);
+    end
+}
+
+// One digit.
+fn put_digit(out: &mut [u8], at: usize, d: u32) -> usize
+    requires d_bound { d < 10 }
+    requires at_in_bounds { at + 1 ≤ length out.old }
+    ensures { PutAt out.old at (digit d ∷ []) result out.new }
+{
+    put_byte(out, at, (48 + d) as u8)
+}
+
+// A number below 100 in two digits.
+pub fn put_two_digits(out: &mut [u8], at: usize, n: u32) -> usize
+    requires n_bound { n < 100 }
+    requires at_in_bounds { at + 2 ≤ length out.old }
+    ensures { PutAt out.old at (two_digits n) result out.new }
+{
+    let next = put_digit(out, at, n / 10);
+    put_digit(out, next, n % 10)
+}
+
+// The digits of a number, all but the last by a call of itself.
+fn put_digits(out: &mut [u8], at: usize, n: u32) -> usize
+    requires { at + length (decimal n) ≤ length out.old }
+    ensures { PutAt out.old at (decimal n) result out.new }
+{
+    if n < 10 {
+        return put_digit(out, at, n);
+    }
+    let next = put_digits(out, at, n / 10);
+    put_digit(out, next, n % 10)
+}
+
+// A number in decimal digits, of which there are ten at most.
+pub fn put_number(out: &mut [u8], at: usize, n: u32) -> usize
+    requires { at + 10 ≤ length out.old }
+    ensures { PlacedAt out.old at (decimal n) 10 result out.new }
+{
+    put_digits(out, at, n)
+}
 
 // A lent buffer, of which the first `len` bytes are put. A contract sees these, and the free bytes behind them.
 #[derive(Drop)]
@@ -34,12 +93,20 @@ impl<'a> Text<'a> {
         Text { room, len: 0 }
     }
 
+    // The bytes that are put, and the free bytes behind them.
+    pub fn into_parts(self) -> (&'a mut [u8], &'a mut [u8])
+        ensures bytes { result.0.now ≡ self.entry.bytes }
+        ensures free { result.1.now ≡ self.entry.free }
+    {
+        let Text { room, len } = self;
+        room.split_at_mut(len)
+    }
+
     // The bytes that are put.
     pub fn into_bytes(self) -> &'a mut [u8]
         ensures { result.now ≡ self.entry.bytes }
     {
-        let Text { room, len } = self;
-        &mut room[..len]
+        self.into_parts().0
     }
 
     // One byte.
@@ -47,8 +114,7 @@ impl<'a> Text<'a> {
         requires { 1 ≤ length self.old.free }
         ensures { Put self.old (b ∷ []) self.new }
     {
-        self.room[self.len] = b;
-        self.len += 1;
+        self.len = put_byte(self.room, self.len, b);
     }
 
     // The bytes of a slice.
@@ -56,18 +122,7 @@ impl<'a> Text<'a> {
         requires { length bytes.now ≤ length self.old.free }
         ensures { Put self.old bytes.now self.new }
     {
-        let end = self.len + bytes.len();
-        self.room[self.len..end].copy_from_slice(bytes);
-        self.len = end;
-    }
-
-    // One digit.
-    fn push_digit(&mut self, d: u32)
-        requires d_bound { d < 10 }
-        requires free_bound { 1 ≤ length self.old.free }
-        ensures { Put self.old (digit d ∷ []) self.new }
-    {
-        self.push_byte((48 + d) as u8);
+        self.len = put_bytes(self.room, self.len, bytes);
     }
 
     // A number below 100 in two digits.
@@ -76,20 +131,7 @@ impl<'a> Text<'a> {
         requires free_bound { 2 ≤ length self.old.free }
         ensures { Put self.old (two_digits n) self.new }
     {
-        self.push_digit(n / 10);
-        self.push_digit(n % 10);
-    }
-
-    // The digits of a number, all but the last by a call of itself.
-    fn push_digits(&mut self, n: u32)
-        requires { length (decimal n) ≤ length self.old.free }
-        ensures { Put self.old (decimal n) self.new }
-    {
-        if n < 10 {
-            return self.push_digit(n);
-        }
-        self.push_digits(n / 10);
-        self.push_digit(n % 10);
+        self.len = put_two_digits(self.room, self.len, n);
     }
 
     // A number in decimal digits, of which there are ten at most.
@@ -97,6 +139,6 @@ impl<'a> Text<'a> {
         requires { 10 ≤ length self.old.free }
         ensures { Placed self.old (decimal n) 10 self.new }
     {
-        self.push_digits(n);
+        self.len = put_number(self.room, self.len, n);
     }
 }
