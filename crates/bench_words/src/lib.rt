@@ -2,6 +2,7 @@
 #![tactic(auto)]
 
 ghost use Rattle.std.specs.Prelude.{◌≡◌};
+ghost use Rattle.algebra.specs.Answers.{Answers};
 ghost use Rattle.words.specs.Words.{words};
 ghost use Rattle.bench_words.specs.Contract.{Says};
 
@@ -19,5 +20,20 @@ pub extern "C" fn bench_by_words(a: &[u8], b: &[u8]) -> u32
 pub extern "C" fn bench_by_bytes(a: &[u8], b: &[u8]) -> u32
     ensures { Says (a.now ≡ b.now) result }
 {
-    if a == b { 1 } else { 0 }
+    if same_bytes(a, b) { 1 } else { 0 }
+}
+
+// Whether a and b are the same bytes.
+fn same_bytes(a: &[u8], b: &[u8]) -> bool
+    ensures { Answers (a.now ≡ b.now) result }
+{
+    if a.len() != b.len() {
+        return false;
+    }
+    for i in 0..a.len() {
+        if a[i] != b[i] {
+            return false;
+        }
+    }
+    true
 }
