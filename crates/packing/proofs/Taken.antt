@@ -16,12 +16,12 @@ use lib.ListN.{length, get_or, take, drop}
 use lib.Seq.{length-take-le, take-length}
 use lib.Pow.{pow_pos, pow_mono, pow-add, shr_lt, shr-shr, shl_exact}
 use lib.Bits.{bit_and, bit_or, or_shifted_r, and_mask}
-use Rattle.std.specs.Int.{w64, to_le_bytes, div_ceil}
+use Rattle.std.specs.Int.{div_ceil}
 use Rattle.layout.specs.Layout.{bytes4}
 use Rattle.packing.specs.Packing.{packed, unpacked, filled}
 use Rattle.packing.specs.Contract.{laid, PackAsked}
 use Rattle.packing.proofs.Laws.{packed-below, packed_take}
-use Rattle.packing.proofs.Laid.{laid_none, laid_more, laid-low, bytes4-unpacked, first_bytes}
+use Rattle.packing.proofs.Laid.{laid_none, laid_more, laid-low, bytes4-unpacked}
 
 pub record Taken (d : List ℕ) (at : ℕ) (ns : List ℕ) (w : ℕ) (out : List ℕ) (i done held bits : ℕ) : Type 0 where
   pub upto : i ≤ length ns
@@ -141,13 +141,13 @@ module _ (d : List ℕ) (at : ℕ) (ns : List ℕ) (w : ℕ) (A : PackAsked d at
     pub left_room : i ≡ length ns → at + done + (bits + 7) / 8 ≤ length out
     left_room all = omega (arith, left_bytes all, A.room, t.long)
 
-    pub taken_all : (out' bs : List ℕ) (left : ℕ) → i ≡ length ns → left ≡ div_ceil bits 8 → bs ≡ take left (to_le_bytes w64 held)
-        → out' ≡ take (at + done) out ++ bs ++ drop (at + done + left) out → out' ≡ laid d at (filled w (length ns)) (packed w ns)
-    taken_all out' bs left all el eb e =
-        let few : left ≤ 4 = omega (arith, t.short, el) in
+    pub taken_all : (out' : List ℕ) (left : ℕ) → i ≡ length ns → left ≡ div_ceil bits 8 → out' ≡ laid out (at + done) left held
+        → out' ≡ laid d at (filled w (length ns)) (packed w ns)
+    taken_all out' left all el e =
         let whole : take i ns ≡ ns = ap (λ (k : ℕ). take k ns) all ∙ take-length ns in
+        let bs : List ℕ = unpacked 8 left held in
         let b : bs ≡ unpacked 8 left (packed w ns / 2 ^ (8 * done)) =
-        eb ∙ first_bytes left held few ∙ ap (unpacked 8 left) (t.rest ∙ ap (λ (ms : List ℕ). packed w ms / 2 ^ (8 * done)) whole) in
+        ap (unpacked 8 left) (t.rest ∙ ap (λ (ms : List ℕ). packed w ms / 2 ^ (8 * done)) whole) in
         e
         ∙ ap (λ (s : List ℕ). take (at + done) s ++ bs ++ drop (at + done + left) s) (t.bytes ∙ ap (λ (ms : List ℕ). laid d at done (packed w ms)) whole)
         ∙ laid_more d bs at done left (packed w ns) (omega (arith, left_room all, t.long, el)) b

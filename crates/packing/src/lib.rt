@@ -2,7 +2,7 @@
 // which bits stand where.
 #![tactic(auto)]
 
-ghost use Rattle.std.specs.Prelude.{◌≡◌, length};
+ghost use Rattle.std.specs.Prelude.{◌≡◌, ◌-◌, ◌≤◌, length};
 ghost use Rattle.packing.specs.Packing.{packed, filled};
 ghost use Rattle.packing.specs.Contract.{LengthOf, laid, PackAsked};
 
@@ -34,5 +34,18 @@ pub fn pack(out: &mut [u8], at: usize, ns: &[u32], w: u32)
     }
     let place = at + done;
     let left = bits.div_ceil(8) as usize;
-    out[place..place + left].copy_from_slice(&held.to_le_bytes()[..left]);
+    bytes(out, place, place + left, held);
+}
+
+// Writes the bytes of n, the lowest first, from place `at` on, up to `end`.
+fn bytes(out: &mut [u8], at: usize, end: usize, n: u64)
+    requires at_le_end { at ≤ end }
+    requires end_in_bounds { end ≤ length out.old }
+    ensures { out.new ≡ laid out.old at (end - at) n }
+{
+    let mut left = n;
+    for place in at..end {
+        out[place] = (left & 255) as u8;
+        left >>= 8;
+    }
 }

@@ -21,5 +21,4 @@ loop-n-preserved c =
 
 pub returns : goal.returns
 returns c =
-    taken_all _ _ _ _ c.requires _ _ _ _ _ c.loop-n.invariant _ c.copy_from_slice.new.self _ (omega arith) c.div_ceil-left.ensures
-    (grind (arith, common_steps)) (grind (arith, common_steps))
+    taken_all _ _ _ _ c.requires _ _ _ _ _ c.loop-n.invariant _ _ (omega arith) c.div_ceil-left.ensures (grind (arith, common_steps, c.bytes.ensures))
