@@ -30,7 +30,7 @@ use Rattle.reader.proofs.Answer.{written_out, given-bytes}
 use Rattle.calls.specs.Call.{room, list_of}
 use Rattle.report.specs.Report.{refused_line, lines, counted}
 use Rattle.report.specs.Report as report_on
-use Rattle.printing.specs.Contract.{AllPut}
+use Rattle.printing.specs.Contract.{AllPushed}
 use Rattle.tallies.proofs.More.{tallies_bounded}
 use Rattle.pass.specs.declared.Pass.{Pass}
 use Rattle.pass.specs.Found.{PassFound}
@@ -79,7 +79,7 @@ module _ {x : Divisor} {out out' : List ℕ} {n : ℕ} (a : WriteAnswer x out ou
       }
 
 module _ {s s' : Written} where
-  pub all_put : {p : Pass} {n : ℕ} {sum : List ℕ} → Taken p.sum n sum → AllPut p.tallies (take n sum) s s' → PassPut (Ok p) s s'
+  pub all_put : {p : Pass} {n : ℕ} {sum : List ℕ} → Taken p.sum n sum → AllPushed p.tallies (take n sum) s s' → PassPut (Ok p) s s'
   all_put k h =
       record {
         put = λ c w v rs z. subst (λ (u : List ℕ). Put s (lines rs u) s') (k.is c w v) (h.put rs z);

@@ -27,9 +27,9 @@ fn put_pass(text: &mut Text<'_>, found: Result<Pass, Refusal>)
         Ok(p) => {
             let mut sum = [0u8; reader::ROOM];
             let size = reader::write_divisor(p.sum, &mut sum);
-            printing::put_all(text, p.tallies, &sum[..size])
+            printing::push_all(text, p.tallies, &sum[..size])
         }
-        Err(cause) => printing::put_refused(text, cause.number()),
+        Err(cause) => printing::push_refused(text, cause.number()),
     }
 }
 

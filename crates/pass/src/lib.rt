@@ -39,7 +39,7 @@ impl Pass {
     {
         Pass {
             sum: group::sum(g, self.sum, x),
-            tallies: tallies::add(self.tallies, x),
+            tallies: tallies::add(self.tallies, Ok(x)),
         }
     }
 }

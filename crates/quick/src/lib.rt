@@ -7,6 +7,7 @@ ghost use Rattle.quick.specs.Served.{ShortGround, TypicalValue, ServedOf};
 
 use basis::Divisor;
 use ground::Ground;
+use group::SumBy;
 use kind::Kind;
 
 // Is p above 3, and are c5, c6 and c8 zero?
@@ -55,5 +56,8 @@ pub fn served(g: Ground, x: Divisor, y: Divisor) -> Option<Divisor>
     if !is_typical(y) {
         return None;
     }
-    group::by_formulas(g, x, y)
+    match group::tried(g, x, y) {
+        SumBy::Formulas(s) => Some(s),
+        SumBy::Product(_) => None,
+    }
 }

@@ -1,8 +1,8 @@
-// The line of the share put into a text; crate report, specs/Report.antt, says what the line is.
+// The line of the share put behind a text or into a lent buffer; crate report, specs/Report.antt, says what the line is.
 #![tactic(auto)]
 
-ghost use Rattle.std.specs.Prelude.{◌≡◌, ◌≤◌, ◌<◌, length};
-ghost use Rattle.text.specs.Put.{Placed};
+ghost use Rattle.std.specs.Prelude.{◌≡◌, ◌+◌, ◌≤◌, ◌<◌, length};
+ghost use Rattle.text.specs.Put.{PlacedAt, Placed};
 ghost use Rattle.report.specs.Report.{rounded, per_cent, share_line};
 
 use tallies::Tallies;
@@ -30,7 +30,7 @@ fn rounded(a: u64, b: u64) -> u64
 }
 
 // Hundredths with two decimals.
-fn put_per_cent(text: &mut Text<'_>, h: u32)
+fn push_per_cent(text: &mut Text<'_>, h: u32)
     requires { 13 ≤ length text.old.free }
     ensures { Placed text.old (per_cent h) 13 text.new }
 {
@@ -39,8 +39,8 @@ fn put_per_cent(text: &mut Text<'_>, h: u32)
     text.push_two_digits(h % 100);
 }
 
-// The line of the share.
-pub fn put_share(text: &mut Text<'_>, t: Tallies)
+// The line of the share behind a text.
+pub fn push_share(text: &mut Text<'_>, t: Tallies)
     requires typical_le_total { t.typical ≤ t.total }
     requires free_bound { 20 ≤ length text.old.free }
     ensures { Placed text.old (share_line t.typical t.total) 20 text.new }
@@ -50,6 +50,18 @@ pub fn put_share(text: &mut Text<'_>, t: Tallies)
     }
     let hundredths = rounded(10000 * t.typical as u64, t.total as u64);
     text.push_bytes(b"share ");
-    put_per_cent(text, hundredths as u32);
+    push_per_cent(text, hundredths as u32);
     text.push_byte(b'\n');
+}
+
+// The line of the share in a lent buffer, from place `at` on; returns the place behind it.
+pub fn put_share(out: &mut [u8], at: usize, t: Tallies) -> usize
+    requires typical_le_total { t.typical ≤ t.total }
+    requires at_bound { at + 20 ≤ length out.old }
+    ensures { PlacedAt out.old at (share_line t.typical t.total) 20 result out.new }
+{
+    let mut room = [0u8; 20];
+    let mut line = Text::new(&mut room);
+    push_share(&mut line, t);
+    text::put_bytes(out, at, line.into_bytes())
 }

@@ -3,8 +3,10 @@
 --   Bounded t            each tally is at most that of all records
 --   HasRecord x r        r is the record of the divisor by value x, whose numbers are below 2³²
 --   TypicalTest x b      typical: is the record of x typical
---   AddedTo t x t'       add: t' counts one record more than t, that of x
-use Rattle.std.specs.Prelude.{◌≡◌, Bool, List, [], ◌∷◌, ◌++◌, ℕ, ◌≤◌, length}
+--   AddedTo t x t'       t' counts one record more than t, that of x
+--   Added t x t'         add: …; one whose number no kind has counts among all records alone
+use Rattle.std.specs.Prelude.{◌≡◌, Bool, List, [], ◌∷◌, ◌++◌, ℕ, ◌+◌, ◌≤◌, length, Result, Ok, Err}
+use Rattle.kind.specs.declared.UnknownKind.{UnknownKind}
 use Rattle.layout.specs.Layout.{Words}
 use Rattle.basis.specs.Divisor.{numbers_of}
 use Rattle.basis.specs.declared.Divisor.{Divisor}
@@ -39,3 +41,7 @@ TypicalTest x b = (r : List ℕ) → HasRecord x r → b ≡ typical r
 
 abbrev pub AddedTo : (t : Tallies) → Divisor → Tallies → Type 0
 AddedTo t x t' = (rs : List (List ℕ)) (r : List ℕ) → TalliesOf rs t → HasRecord x r → TalliesOf (rs ++ r ∷ []) t'
+
+abbrev pub Added : (t : Tallies) → Result Divisor UnknownKind → Tallies → Type 0
+Added t (Ok x) t' = AddedTo t x t'
+Added t (Err e) t' = t' ≡ record { n0 = t.n0; n11 = t.n11; n21 = t.n21; n22 = t.n22; n31 = t.n31; typical = t.typical; total = t.total + 1 }

@@ -2,10 +2,10 @@
 #![tactic(auto)]
 
 ghost use Rattle.std.specs.Prelude.{[], ◌<◌};
-ghost use Rattle.tallies.specs.Tallied.{TalliesOf, Bounded, TypicalTest, AddedTo};
+ghost use Rattle.tallies.specs.Tallied.{TalliesOf, Bounded, TypicalTest, Added};
 
 use basis::Divisor;
-use kind::Kind;
+use kind::{Kind, UnknownKind};
 
 // How many records of a list have each of the five kinds, how many are typical, and how many there are.
 #[derive(Clone, Copy, Default)]
@@ -33,19 +33,23 @@ fn typical(x: Divisor) -> bool
     x.kind == Kind::K31 && x.n2 != 0
 }
 
-// The tallies with one record more, that of x.
-pub fn add(t: Tallies, x: Divisor) -> Tallies
+// The tallies with one record more, that of x. One whose number no kind has counts among all records alone.
+pub fn add(t: Tallies, x: Result<Divisor, UnknownKind>) -> Tallies
     requires bounded { Bounded t }
     requires total_bound { t.total < 4294967295 }
-    ensures { AddedTo t x result }
+    ensures { Added t x result }
 {
-    Tallies {
-        n0: t.n0 + u32::from(x.kind == Kind::Zero),
-        n11: t.n11 + u32::from(x.kind == Kind::K11),
-        n21: t.n21 + u32::from(x.kind == Kind::K21),
-        n22: t.n22 + u32::from(x.kind == Kind::K22),
-        n31: t.n31 + u32::from(x.kind == Kind::K31),
-        typical: t.typical + u32::from(typical(x)),
-        total: t.total + 1,
+    let total = t.total + 1;
+    match x {
+        Ok(x) => Tallies {
+            n0: t.n0 + u32::from(x.kind == Kind::Zero),
+            n11: t.n11 + u32::from(x.kind == Kind::K11),
+            n21: t.n21 + u32::from(x.kind == Kind::K21),
+            n22: t.n22 + u32::from(x.kind == Kind::K22),
+            n31: t.n31 + u32::from(x.kind == Kind::K31),
+            typical: t.typical + u32::from(typical(x)),
+            total,
+        },
+        Err(_) => Tallies { total, ..t },
     }
 }

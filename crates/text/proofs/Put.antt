@@ -4,7 +4,8 @@
 --   put_nothing      nothing put
 --   put_then         a text and then another, behind it, are the two together
 --   put_length       how many bytes are put then
-use mathlib.Core.Path.{◌≡◌, refl, sym, ap, ◌∙◌}
+--   text_only, text_put_at    the bytes of a text that holds one piece alone, and these put from a place on
+use mathlib.Core.Path.{◌≡◌, refl, sym, ap, ◌∙◌, subst}
 use mathlib.Core.List.{List, [], ◌++◌, append_assoc, append-nil}
 use Prim.Native.Nat.{ℕ, ◌+◌, ◌≤◌}
 use native.Mathlib.Nat.{add-zero}
@@ -50,3 +51,11 @@ put_then {s} {s'} {s''} {text} {more} p q =
 
 pub put_length : {s s' : Written} {text : List ℕ} → Put s text s' → length s'.bytes ≡ length s.bytes + length text
 put_length {s} {s'} {text} p = ap length p.is ∙ length-append s.bytes text
+
+-- the bytes of a text that holds one piece alone
+module _ {s s' : Written} {text bytes : List ℕ} (none : s.bytes ≡ []) (p : Put s text s') (same : bytes ≡ s'.bytes) where
+  pub text_only : bytes ≡ text
+  text_only = same ∙ p.is ∙ ap (λ (bs : List ℕ). bs ++ text) none
+
+  pub text_put_at : {out out' : List ℕ} {at r : ℕ} → PutAt out at bytes r out' → PutAt out at text r out'
+  text_put_at {out} {out'} {at} {r} q = subst (λ (bs : List ℕ). PutAt out at bs r out') text_only q

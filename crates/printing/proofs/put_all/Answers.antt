@@ -1,13 +1,16 @@
--- `printing::put_all` meets its contract: the counts, the share and the sum, one after the other.
+-- `printing::put_all` meets its contract: the bytes of a text that holds these lines alone are put.
+use mathlib.Core.Path.{ap}
 use native.Mathlib.Omega.{arith}
-use Rattle.text.proofs.Put.{put_then, put_length}
-use Rattle.printing.proofs.Lines.{lines_tallied}
+use lib.ListN.{length}
+use Rattle.text.proofs.Put.{text_put_at}
 use Rattle.printing.proofs.put_all.Goals as goal
+
+pub put_bytes-requires : goal.put_bytes-requires
+put_bytes-requires c = omega (arith, ap length c.into_bytes.ensures, ap length c.new-lines.ensures.bytes, c.push_all.ensures.short)
 
 pub returns : goal.returns
 returns c =
-    let all = put_then (put_then c.put_counts.ensures.put c.put_share.ensures.put) c.put_sum.ensures.put in
     record {
-      put = λ rs h. rw (← lines_tallied rs c.args.w.now c.args.t h) all;
-      short = omega (arith, put_length all);
+      put = λ rs h. text_put_at c.new-lines.ensures.bytes (c.push_all.ensures.put rs h) c.into_bytes.ensures c.put_bytes.ensures;
+      short = omega (arith, c.put_bytes.ensures.next, ap length c.into_bytes.ensures, ap length c.new-lines.ensures.bytes, c.push_all.ensures.short);
     }

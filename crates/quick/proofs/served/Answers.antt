@@ -13,7 +13,12 @@ returns-then-not-is_typical c = not_typical-first (c.is_typical.ensures.fails (d
 pub returns-then-not-is_typical-2 : goal.returns-then-not-is_typical-2
 returns-then-not-is_typical-2 c = search (not_typical-first, not_typical-second, c.is_typical-2.ensures.fails (denied _ (ap not c.if-not-is_typical-2.true)))
 
-pub returns : goal.returns
-returns c =
-    tried-served c.by_formulas.ensures.tried (c.short_form.ensures.holds (granted _ (ap not c.if-not-short_form.false))) (c.is_typical.ensures.holds (granted _ (ap not c.if-not-is_typical.false)))
-    (c.is_typical-2.ensures.holds (granted _ (ap not c.if-not-is_typical-2.false)))
+pub returns-in-Formulas : goal.returns-in-Formulas
+returns-in-Formulas c =
+    tried-served (rw c.in-Formulas.is at c.tried.ensures.tried) (c.short_form.ensures.holds (granted _ (ap not c.if-not-short_form.false)))
+    (c.is_typical.ensures.holds (granted _ (ap not c.if-not-is_typical.false))) (c.is_typical-2.ensures.holds (granted _ (ap not c.if-not-is_typical-2.false)))
+
+pub returns-in-Product : goal.returns-in-Product
+returns-in-Product c =
+    tried-served (rw c.in-Product.is at c.tried.ensures.tried) (c.short_form.ensures.holds (granted _ (ap not c.if-not-short_form.false)))
+    (c.is_typical.ensures.holds (granted _ (ap not c.if-not-is_typical.false))) (c.is_typical-2.ensures.holds (granted _ (ap not c.if-not-is_typical-2.false)))

@@ -1,21 +1,14 @@
--- `share::put_share` meets its contract: one line for no record, and one for some.
+-- `share::put_share` meets its contract: the bytes of a text that holds the line alone are put.
+use mathlib.Core.Path.{ap}
 use native.Mathlib.Omega.{arith}
-use Rattle.text.proofs.Put.{put_then}
-use Rattle.share.proofs.Share.{share_none, share_some, share_small}
+use lib.ListN.{length}
+use Rattle.text.proofs.Put.{text_only, text_put_at}
 use Rattle.share.proofs.put_share.Goals as goal
 
-pub returns-then-t-eq0 : goal.returns-then-t-eq0
-returns-then-t-eq0 c =
-    let t = c.args.t in
-    rw (share_none t.typical t.total c.if-t-eq0.true) (record { put = c.push_bytes.ensures; within = omega arith })
-
-pub overflow_cast-hundredths : goal.overflow_cast-hundredths
-overflow_cast-hundredths c =
-    let t = c.args.t in
-    omega (arith, share_small t.typical t.total (omega (arith, c.requires)) (omega arith))
+pub put_bytes-requires : goal.put_bytes-requires
+put_bytes-requires c = omega (arith, ap length (text_only c.new-line.ensures.bytes c.push_share.ensures.put c.into_bytes.ensures))
 
 pub returns : goal.returns
 returns c =
-    let t = c.args.t in
-    let all = put_then (put_then c.push_bytes-2.ensures c.put_per_cent.ensures.put) c.push_byte.ensures in
-    rw (share_some t.typical t.total (omega arith), ← c.rounded-hundredths.ensures) (record { put = all; within = omega arith })
+    let put = text_put_at c.new-line.ensures.bytes c.push_share.ensures.put c.into_bytes.ensures c.put_bytes.ensures in
+    record { put = put; within = omega arith }

@@ -1,7 +1,7 @@
--- `printing::put_spaced` meets its contract: a space and then the number.
+-- `printing::push_spaced` meets its contract: a space and then the number.
 use native.Mathlib.Omega.{arith}
 use Rattle.text.proofs.Put.{put_then}
-use Rattle.printing.proofs.put_spaced.Goals as goal
+use Rattle.printing.proofs.push_spaced.Goals as goal
 
 pub returns : goal.returns
 returns c =

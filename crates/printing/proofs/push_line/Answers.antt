@@ -1,8 +1,8 @@
--- `printing::put_line` meets its contract: a name, a number and the end of the line.
+-- `printing::push_line` meets its contract: a name, a number and the end of the line.
 use native.Mathlib.Omega.{arith}
 use Rattle.text.proofs.Put.{put_then}
 use Rattle.report.specs.Report.{count_line}
-use Rattle.printing.proofs.put_line.Goals as goal
+use Rattle.printing.proofs.push_line.Goals as goal
 
 pub returns : goal.returns
 unfolding count_line

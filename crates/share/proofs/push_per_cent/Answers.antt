@@ -1,9 +1,9 @@
--- `share::put_per_cent` meets its contract: the whole part, a point and two digits.
+-- `share::push_per_cent` meets its contract: the whole part, a point and two digits.
 use native.Mathlib.Omega.{arith}
 use Rattle.text.proofs.Put.{put_then}
 use Rattle.report.specs.Report.{per_cent}
 use Rattle.text.specs.Decimal.{two_digits}
-use Rattle.share.proofs.put_per_cent.Goals as goal
+use Rattle.share.proofs.push_per_cent.Goals as goal
 
 pub returns : goal.returns
 unfolding per_cent two_digits
