@@ -13,6 +13,7 @@ use Rattle.field.specs.Contract.{Is}
 use Rattle.barrett.specs.Contract.{more₁, less₁, less₃, cross₂}
 use Rattle.chains.specs.Contract.{more₁_less₁, more₂_less₁, more₁_less₂, more₂_less₂}
 use Rattle.basis.specs.declared.Divisor.{Divisor}
+use Rattle.basis.specs.Divisor.{numbers_of}
 use Rattle.matrix.specs.declared.Column.{Column}
 use Rattle.matrix.specs.Matrix.{ColumnBelow}
 use Rattle.entries.specs.declared.Lower.{Lower}
@@ -84,7 +85,7 @@ pub record InversesOf (p : ℕ) (f : Factors) (r : Inverses) : Type 0 where
       → (Z p).mul (el p f.y) (el p r.two) ≡ (Z p).mul z z
 
 pub record TailAsked (p : ℕ) (n : Divisor) (q0 q1 q2 : ℕ) (v : Column) : Type 0 where
-  pub n_below : NumbersBelow p n
+  pub n_below : NumbersBelow p (numbers_of n)
   pub v_below : ColumnBelow p v
   pub q0_below : q0 < p
   pub q1_below : q1 < p

@@ -33,7 +33,7 @@ abbrev pub made : Head → Body → Last → Divisor
 made h b l =
     record { kind = k31; n0 = b.f0; n1 = b.f1; n2 = h.f2; n3 = b.g0; n4 = h.g1; n5 = b.g2; n6 = l.h0; n7 = l.h1; n8 = l.h2 }
 
-pub numbers-shaped : {p : ℕ} {r : Divisor} → r.kind ≡ k31 → NumbersBelow p r → Shaped p k31 r
+pub numbers-shaped : {p : ℕ} {r : Divisor} → r.kind ≡ k31 → NumbersBelow p (numbers_of r) → Shaped p k31 r
 numbers-shaped {p} {r} e b = record { kind = e; below = go }
   where
     go : (i : ℕ) → at (numbers_of r) i < p

@@ -29,7 +29,7 @@ use Rattle.vector.proofs.Element.{element-at}
 use Rattle.multiplication.specs.Contract.{Cube}
 use Rattle.equation.proofs.Vectors.{vector-cube, cube-at}
 use Rattle.basis.specs.declared.Divisor.{Divisor}
-use Rattle.basis.specs.Divisor.{residues}
+use Rattle.basis.specs.Divisor.{numbers_of, residues}
 use Rattle.matrix.specs.declared.Column.{Column}
 use Rattle.matrix.specs.Matrix.{residues_of}
 use Rattle.entries.specs.declared.Lower.{Lower}
@@ -58,9 +58,9 @@ module _ (p : ℕ) (C : Curve (Z p)) where
   from_zero : (e f : R.Car) → e ≡ R.add (el p 0) f → f ≡ e
   from_zero e f h = sym (h ∙ ap (λ z. R.add z f) (el-zero p) ∙ zero-add R f)
 
-  pub shifted_is : {m : Divisor} {v r : Column} {w : (Coordinate C).Car} → Shifted p v m r → IsColumn C (residues p m) w (residues_of p v)
+  pub shifted_is : (m : Divisor) {v r : Column} {w : (Coordinate C).Car} → Shifted p v (numbers_of m) r → IsColumn C (residues p m) w (residues_of p v)
       → IsColumn C (residues p m) ((Coordinate C).mul (x C) w) (residues_of p r)
-  shifted_is {m} {v} {r} h c =
+  shifted_is m {v} {r} h c =
       column_cong C (residues p m)
       (class_by (λ i. shift (ops R) (residues p m) (residues_of p v) i ≡ residues_of p r i) (from_zero _ _ h.one_is) (sym h.x_is) (from_zero _ _ h.y_is)) (shift-column C (residues p m) c)
 
@@ -87,13 +87,13 @@ module _ (p : ℕ) (C : Curve (Z p)) (m : Divisor) (w : ℕ → (Coordinate C).C
   has-column : (j : ℕ) → j ≤ 2 → (r : Column) → Has j r → IsColumn C (residues p m) (w j) (residues_of p r)
   has-column j l r (h0, (h1, h2)) = column_cong C (residues p m) (class_by (λ i. f j i ≡ residues_of p r i) (sym h0) (sym h1) (sym h2)) (column j l)
 
-  pub columns : {a b c d e : Column} → Has 0 a → Has 1 b → Has 2 c → Shifted p a m d → Shifted p b m e → Columns p C m w f a b c d e
+  pub columns : {a b c d e : Column} → Has 0 a → Has 1 b → Has 2 c → Shifted p a (numbers_of m) d → Shifted p b (numbers_of m) e → Columns p C m w f a b c d e
   columns {a} {b} {c} (a0, (a1, a2)) (b0, (b1, b2)) (c0, (c1, c2)) hd he = record {
     a_is = ia;
     b_is = ib;
     c_is = has-column 2 (omega arith) _ (c0, (c1, c2));
-    d_is = shifted_is p C hd ia;
-    e_is = shifted_is p C he ib;
+    d_is = shifted_is p C m hd ia;
+    e_is = shifted_is p C m he ib;
     pivot_is = λ t. determinant (ops (Z p)) (entries (a0 t) (a1 t) (a2 t)) (entries (b0 t) (b1 t) (b2 t)) (entries (c0 t) (c1 t) (c2 t));
   }
     where
@@ -103,20 +103,20 @@ module _ (p : ℕ) (C : Curve (Z p)) (m : Divisor) (w : ℕ → (Coordinate C).C
       ib : IsColumn C (residues p m) (w 1) (residues_of p b)
       ib = has-column 1 (omega arith) _ (b0, (b1, b2))
 
-pub sum_columns : (p : ℕ) (C : Curve (Z p)) (n m : Divisor) {r : List (List ℕ)} (S : SumMatrix p n m r)
+pub sum_columns : (p : ℕ) (C : Curve (Z p)) (n m : Divisor) {r : List (List ℕ)} (S : SumMatrix p (numbers_of n) (numbers_of m) r)
     → Columns p C m (member C k31 (residues p n)) (difference (ops (Z p)) (residues p n) (residues p m)) S.a S.b S.c S.d S.e
 sum_columns p C n m S =
     columns p C m (member C k31 (residues p n)) (difference (ops (Z p)) (residues p n) (residues p m)) (difference-column C (residues p m) (residues p n))
     (S.a_is.one_is, (S.a_is.x_is, S.a_is.y_is)) (S.b_is.one_is, (S.b_is.x_is, S.b_is.y_is)) (S.c_is.one_is, (S.c_is.x_is, S.c_is.y_is)) S.d_is S.e_is
 
-module _ (p : ℕ) (C : Curve (Z p)) {o : Lower} (O : IsLower p C o) (n : Divisor) {r : List (List ℕ)} (S : DoubleMatrix p o n r) where
+module _ (p : ℕ) (C : Curve (Z p)) {o : Lower} (O : IsLower p C o) (n : Divisor) {r : List (List ℕ)} (S : DoubleMatrix p o (numbers_of n) r) where
   abbrev F : CommRing
   F = Z p
 
   abbrev N : ℕ → F.Car
   N = residues p n
 
-  abbrev W : PartsOf p o n S.w
+  abbrev W : PartsOf p o (numbers_of n) S.w
   W = S.w_is
 
   abbrev at-curve : {A : Type 0} → (F.Car → F.Car → F.Car → F.Car → F.Car → F.Car → F.Car → (ℕ → F.Car) → A) → A

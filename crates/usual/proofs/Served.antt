@@ -92,7 +92,7 @@ module _ {g : Ground} {a b : Divisor} (A : TriedAsked g a b) where
     pub tried-from : {r : Option Divisor} → SolvedOf p (lower_of g.cube) a m r → TriedIs A r
     tried-from {r} h = tried-at r (subst (λ n. SolvedOf p (lower_of g.cube) a n r) rows h)
 
-  pub tried-sum : {m : List (List ℕ)} {r : Option Divisor} → ¬ (numbers_of a ≡ numbers_of b) → SumMatrix p a b m → SolvedOf p (lower_of g.cube) a m r → TriedIs A r
+  pub tried-sum : {m : List (List ℕ)} {r : Option Divisor} → ¬ (numbers_of a ≡ numbers_of b) → SumMatrix p (numbers_of a) (numbers_of b) m → SolvedOf p (lower_of g.cube) a m r → TriedIs A r
   tried-sum d M =
       tried-from M.rows
       (λ full s t. sum_type61 K C S.nonzero (residues p a) (residues p b) A.a_is.basis A.b_is.basis w.a_is w.b_is w.c_is full _ _ s t w.d_is w.e_is)
@@ -102,7 +102,7 @@ module _ {g : Ground} {a b : Divisor} (A : TriedAsked g a b) where
       w : Columns p C b (member C k31 (residues p a)) (difference (ops R) (residues p a) (residues p b)) M.a M.b M.c M.d M.e
       w = sum_columns p C a b M
 
-  pub tried-double : {m : List (List ℕ)} {r : Option Divisor} → numbers_of a ≡ numbers_of b → DoubleMatrix p (lower_of g.cube) a m → SolvedOf p (lower_of g.cube) a m r → TriedIs A r
+  pub tried-double : {m : List (List ℕ)} {r : Option Divisor} → numbers_of a ≡ numbers_of b → DoubleMatrix p (lower_of g.cube) (numbers_of a) m → SolvedOf p (lower_of g.cube) a m r → TriedIs A r
   tried-double e M =
       tried-from M.rows
       (λ full s t hs ht.

@@ -42,7 +42,7 @@ vs_of p n t = less (ops (Z p)) (residues p n) 3 t
 
 pub record CompleteAsked (p : ℕ) (o : Lower) (n : Divisor) (s t : Column) (i : ℕ) : Type 0 where
   pub o_below : LowerBelow p o
-  pub n_below : NumbersBelow p n
+  pub n_below : NumbersBelow p (numbers_of n)
   pub s_below : ColumnBelow p s
   pub t_below : ColumnBelow p t
   pub i_below : i < p
@@ -56,16 +56,17 @@ pub record CompleteOf (p : ℕ) (o : Lower) (n : Divisor) (s t : Column) (i : �
 
 pub record MatrixAsked (p : ℕ) (o : Lower) (a b : Divisor) : Type 0 where
   pub o_below : LowerBelow p o
-  pub a_below : NumbersBelow p a
-  pub b_below : NumbersBelow p b
+  pub a_below : NumbersBelow p (numbers_of a)
+  pub b_below : NumbersBelow p (numbers_of b)
 
 abbrev pub MatrixOf : (p : ℕ) (o : Lower) (a b : Divisor) (r : List (List ℕ)) → Type 0
-MatrixOf p o a b r = ((numbers_of a ≡ numbers_of b) × DoubleMatrix p o a r) ⊎ ((¬ (numbers_of a ≡ numbers_of b)) × SumMatrix p a b r)
+MatrixOf p o a b r =
+    ((numbers_of a ≡ numbers_of b) × DoubleMatrix p o (numbers_of a) r) ⊎ ((¬ (numbers_of a ≡ numbers_of b)) × SumMatrix p (numbers_of a) (numbers_of b) r)
 
 pub record SolveAsked (p : ℕ) (o : Lower) (n : Divisor) (m : List (List ℕ)) : Type 0 where
   pub prime : Prime p
   pub o_below : LowerBelow p o
-  pub n_below : NumbersBelow p n
+  pub n_below : NumbersBelow p (numbers_of n)
   pub m_below : MatrixBelow p m
 
 pub record Pivoted (p : ℕ) (m : List (List ℕ)) : Type 0 where

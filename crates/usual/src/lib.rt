@@ -71,10 +71,12 @@ fn matrix_of(modulus: Modulus, o: Lower, a: Divisor, b: Divisor) -> [[u32; 5]; 3
     requires { MatrixAsked modulus.p o a b }
     ensures { MatrixOf modulus.p o a b result }
 {
-    if numbers(a) == numbers(b) {
-        entries::double_matrix(modulus, o, a)
+    let x = numbers(a);
+    let y = numbers(b);
+    if x == y {
+        entries::double_matrix(modulus, o, x)
     } else {
-        entries::sum_matrix(modulus, a, b)
+        entries::sum_matrix(modulus, x, y)
     }
 }
 

@@ -1,6 +1,7 @@
 -- `entries::parts_of` meets its contract, equation by equation.
 use mathlib.Core.Path.{◌∙◌}
 use native.Mathlib.Omega.{arith}
+use lib.ListN.{get_or}
 use Rattle.field.specs.Residue.{Z, el}
 use Rattle.barrett.specs.Contract.{more₁}
 use Rattle.chains.specs.Contract.{more₁_less₁, more₂_less₁}
@@ -26,9 +27,9 @@ returns c =
       r1_is = c.sub-r1.ensures.is;
       r2_is = c.sub-r2.ensures.is;
       s_is = c.sub-s.ensures.is;
-      t_is = c.more1-t.ensures.is ∙ (λ i. more₁ (Z a.modulus.p) (c.add-t8.ensures.is i) (el a.modulus.p a.n.n2) (el a.modulus.p c.sub-r2.result));
-      s0_is = c.sum-s0.ensures.is ∙ (λ i. more₂_less₁ (Z a.modulus.p) (c.add-t7.ensures.is i) (el a.modulus.p a.n.n2) (el a.modulus.p c.sub-r1.result) (el a.modulus.p a.n.n1) (el a.modulus.p c.sub-r2.result) (el a.modulus.p a.o.n11) (el a.modulus.p a.n.n8));
-      r0_is = c.sum-r0.ensures.is ∙ (λ i. more₁_less₁ (Z a.modulus.p) (c.sub-t6.ensures.is i) (el a.modulus.p a.o.n11) (el a.modulus.p a.n.n7) (el a.modulus.p a.n.n1) (el a.modulus.p c.sub-r1.result));
+      t_is = c.more1-t.ensures.is ∙ (λ i. more₁ (Z a.modulus.p) (c.add-t8.ensures.is i) (el a.modulus.p (get_or a.n 2 0)) (el a.modulus.p c.sub-r2.result));
+      s0_is = c.sum-s0.ensures.is ∙ (λ i. more₂_less₁ (Z a.modulus.p) (c.add-t7.ensures.is i) (el a.modulus.p (get_or a.n 2 0)) (el a.modulus.p c.sub-r1.result) (el a.modulus.p (get_or a.n 1 0)) (el a.modulus.p c.sub-r2.result) (el a.modulus.p a.o.n11) (el a.modulus.p (get_or a.n 8 0)));
+      r0_is = c.sum-r0.ensures.is ∙ (λ i. more₁_less₁ (Z a.modulus.p) (c.sub-t6.ensures.is i) (el a.modulus.p a.o.n11) (el a.modulus.p (get_or a.n 7 0)) (el a.modulus.p (get_or a.n 1 0)) (el a.modulus.p c.sub-r1.result));
       k_is = c.more1-k.ensures.is;
       l_is = c.add-l.ensures.is;
     }

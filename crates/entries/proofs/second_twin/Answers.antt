@@ -1,5 +1,6 @@
 -- `entries::second_twin` meets its contract, equation by equation.
 use mathlib.Core.Path.{◌∙◌}
+use lib.ListN.{get_or}
 use Rattle.field.specs.Residue.{Z, el}
 use Rattle.barrett.specs.Contract.{more₁}
 use Rattle.chains.specs.Contract.{more₂, more₂_less₁}
@@ -10,7 +11,7 @@ returns c =
     let a = c.args in
     record {
       below = record { one = c.sum-one.ensures.below; x = c.more1-x.ensures.below; y = c.sum-y.ensures.below };
-      one_is = c.sum-one.ensures.is ∙ (λ i. more₂_less₁ (Z a.modulus.p) (c.neg-t0.ensures.is i) (el a.modulus.p a.n.n2) (c.add-t1.ensures.is i) (el a.modulus.p a.o.n11) (el a.modulus.p a.n.n3) (el a.modulus.p a.n.n4) (el a.modulus.p a.w.t));
-      x_is = c.more1-x.ensures.is ∙ (λ i. more₁ (Z a.modulus.p) (c.neg-t2.ensures.is i) (el a.modulus.p a.n.n2) (c.add-t3.ensures.is i));
-      y_is = c.sum-y.ensures.is ∙ (λ i. more₂ (Z a.modulus.p) ((c.sub-t5.ensures.is ∙ (λ i. (Z a.modulus.p).add (el a.modulus.p a.n.n4) ((Z a.modulus.p).neg (c.add-t4.ensures.is i)))) i) (el a.modulus.p a.n.n2) (el a.modulus.p a.w.l) (el a.modulus.p a.o.n11) (el a.modulus.p a.n.n5));
+      one_is = c.sum-one.ensures.is ∙ (λ i. more₂_less₁ (Z a.modulus.p) (c.neg-t0.ensures.is i) (el a.modulus.p (get_or a.n 2 0)) (c.add-t1.ensures.is i) (el a.modulus.p a.o.n11) (el a.modulus.p (get_or a.n 3 0)) (el a.modulus.p (get_or a.n 4 0)) (el a.modulus.p a.w.t));
+      x_is = c.more1-x.ensures.is ∙ (λ i. more₁ (Z a.modulus.p) (c.neg-t2.ensures.is i) (el a.modulus.p (get_or a.n 2 0)) (c.add-t3.ensures.is i));
+      y_is = c.sum-y.ensures.is ∙ (λ i. more₂ (Z a.modulus.p) ((c.sub-t5.ensures.is ∙ (λ i. (Z a.modulus.p).add (el a.modulus.p (get_or a.n 4 0)) ((Z a.modulus.p).neg (c.add-t4.ensures.is i)))) i) (el a.modulus.p (get_or a.n 2 0)) (el a.modulus.p a.w.l) (el a.modulus.p a.o.n11) (el a.modulus.p (get_or a.n 5 0)));
     }

@@ -27,7 +27,7 @@ solved-requires c =
       prime = asked.grounded.ready.setting.prime;
       o_below = lower_below small asked.grounded.ready.y3_vec c.lower_of-o.ensures;
       n_below = numbers_below small asked.a_is.shaped;
-      m_below = subst (λ p. MatrixBelow p c.matrix_of-m.result) at (matrix_below (subst (λ p. p < 2147483648) (sym at) small) c.matrix_of-m.ensures);
+      m_below = subst (λ p. MatrixBelow p c.matrix_of-m.result) at (matrix_below c.args.a c.args.b (subst (λ p. p < 2147483648) (sym at) small) c.matrix_of-m.ensures);
     })
 
 pub returns : goal.returns
