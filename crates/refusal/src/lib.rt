@@ -51,6 +51,15 @@ impl Refusal {
     }
 }
 
+// A cause as a byte is its number.
+impl From<Refusal> for u8 {
+    ghost from_gives = { λ e k. k ≡ number_of e };
+
+    fn from(cause: Refusal) -> u8 {
+        cause.number()
+    }
+}
+
 impl fmt::Display for Refusal {
     ghost use Rattle.std.specs.Prelude.{Some};
     ghost use Rattle.refusal.specs.Refusal.{words_of};
